@@ -13,7 +13,7 @@ use Rattle.statement.specs.Shape.{Shape, supernodes}
 use Rattle.statement.specs.Tasks.{climbed, Task, withTop, withTask, split}
 use Rattle.statement.specs.Areas.{flat}
 use Rattle.laws.proofs.Bools.{lt-or-le, ltb-yes, ltb-no, eqb-yes, eqb-no}
-use Rattle.tasks.specs.Given.{Tabled, Parts}
+use Rattle.tasks.specs.Given.{Tabled, Cut}
 
 module _ (S : Shape) (h : ℕ) where
   split-task : (d s e : ℕ) → s < supernodes S → climbed S h s (supernodes S) s s ≡ e → e ≢ s → split S h (suc d) s ≡ withTask s e (split S h d e)
@@ -160,7 +160,7 @@ module _ {ns : ℕ} {parents begins loads : List ℕ} {h : ℕ} {tasks₀ top₀
     cutting-less true q r = let k : s < e = ltb→lt s e (rw (← q) tt) in omega (arith, r)
     cutting-less false q r = omega (arith, r)
 
-  pub cutting-over : ns ≤ s → (S : Shape) → Tabled S ns parents begins loads → Parts (split S h ns 0) tasks₀ top₀ tasks top t o
+  pub cutting-over : ns ≤ s → (S : Shape) → Tabled S ns parents begins loads → Cut (split S h ns 0) tasks₀ top₀ tasks top t o
   cutting-over l S g = record {
     many-tasks = v .len-t ∙ ap length (sym all-t);
     many-top = v .len-o ∙ ap length (sym all-o);

@@ -8,7 +8,7 @@ use lib.ListN.{length, getD, drop}
 use Rattle.statement.specs.Lists.{sum}
 use Rattle.statement.specs.Shape.{Shape, supernodes, width, height, parentOf}
 use Rattle.statement.specs.Tasks.{weight, load, begin, Split}
-use Rattle.statement.specs.Areas.{flat}
+use Rattle.statement.specs.Areas.{held, flat}
 use Rattle.areas.specs.Buckets.{Holds}
 
 -- ---- what no addition past 64 bits needs, of the lists alone
@@ -60,10 +60,30 @@ pub record Loaded (ns : ℕ) (parents to₀ to : List ℕ) : Type 0 where
 abbrev pub fitsIn : ℕ → List ℕ → List ℕ → ℕ → ℕ → ℕ → Bool
 fitsIn ns begins loads most s r = ltb r ns && (eqb (getD begins r 0) s && leb (getD loads r 0) most)
 
+-- the loads with their total
+pub record Weighed (S : Shape) (ns : ℕ) (loads : List ℕ) : Type 0 where
+  pub loaded : Holds (load S) ns loads
+  pub total : getD loads ns 0 ≡ sum (weight S) (supernodes S)
+
+-- all three tables in one list
+pub record Spread (S : Shape) (ns : ℕ) (words : List ℕ) : Type 0 where
+  pub loaded : Holds (load S) ns words
+  pub total : getD words ns 0 ≡ sum (weight S) (supernodes S)
+  pub starting : Holds (begin S) ns (drop (ns + 1) words)
+  pub are : Holds (parentOf S) ns (drop (2 * ns + 2) words)
+
 -- ---- what is left in the two areas: t tasks and o top entries
 
-pub record Parts (x : Split) (tasks₀ top₀ tasks top : List ℕ) (t o : ℕ) : Type 0 where
+-- over what stood there
+pub record Cut (x : Split) (tasks₀ top₀ tasks top : List ℕ) (t o : ℕ) : Type 0 where
   pub many-tasks : t ≡ length (x .tasks)
   pub many-top : o ≡ length (x .top)
   pub in-tasks : tasks ≡ flat (x .tasks) ++ drop (length (flat (x .tasks))) tasks₀
   pub in-top : top ≡ x .top ++ drop (length (x .top)) top₀
+
+-- and zeros after them
+pub record Parts (x : Split) (tasks₀ top₀ tasks top : List ℕ) (t o : ℕ) : Type 0 where
+  pub many-tasks : t ≡ length (x .tasks)
+  pub many-top : o ≡ length (x .top)
+  pub in-tasks : tasks ≡ held (length tasks₀) 0 (flat (x .tasks))
+  pub in-top : top ≡ held (length top₀) 0 (x .top)

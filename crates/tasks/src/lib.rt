@@ -5,10 +5,12 @@ ghost use mathlib.Core.List.{_++_, _∷_};
 ghost use Prim.Native.Nat.{ℕ, suc, _+_, _-_, _*_, _≤_, _<_, _/_, _^_, min, max};
 ghost use lib.ListN.{length, getD, set, drop};
 ghost use Rattle.statement.specs.Lists.{sum, list};
-ghost use Rattle.statement.specs.Shape.{Shape};
+ghost use Rattle.statement.specs.Shape.{Shape, supernodes};
 ghost use Rattle.statement.specs.Tasks.{begin, climbed, split, splitOf};
 ghost use Rattle.areas.specs.Buckets.{Holds};
-ghost use Rattle.tasks.specs.Given.{Above, Sized, Parented, Given, Tabled, Loaded, Parts, weightIn, fitsIn};
+ghost use Rattle.tasks.specs.Given.{Above, Sized, Parented, Given, Tabled, Loaded, Weighed, Spread, Cut, Parts, weightIn, fitsIn};
+use areas::clear_words;
+use areas::copy_part;
 
 // The sum of the squares of m - c over w columns.
 fn weight(m: usize, w: usize) -> usize
@@ -196,7 +198,7 @@ fn cut(
     requires { ⌜ Above ns (now parents) ⌝ }
     requires { ⌜ (ns ≤ length (now begins)) × (ns ≤ length (now loads)) ⌝ }
     requires { ⌜ (2 * ns ≤ length (now tasks)) × (ns ≤ length (now top)) ⌝ }
-    ensures { λ r. ⌜ ((S : Shape) → Tabled S ns (now (parents .entry)) (now (begins .entry)) (now (loads .entry)) → Parts (split S most ns 0) (now (tasks .entry)) (now (top .entry)) (now (tasks .exit)) (now (top .exit)) (r .tasks) (r .top)) ⌝ }
+    ensures { λ r. ⌜ ((S : Shape) → Tabled S ns (now (parents .entry)) (now (begins .entry)) (now (loads .entry)) → Cut (split S most ns 0) (now (tasks .entry)) (now (top .entry)) (now (tasks .exit)) (now (top .exit)) (r .tasks) (r .top)) ⌝ }
 {
     let mut t = 0;
     let mut o = 0;
@@ -211,26 +213,69 @@ fn cut(
     Cuts { tasks: t, top: o }
 }
 
-// The tasks and the top of ns supernodes, by their first columns, row starts and parents. loads and begins are scratch.
+// The loads, by first columns, row starts and parents; slot ns has the total.
+fn loads(ns: usize, firsts: &[usize], starts: &[usize], parents: &[usize], to: &mut [usize])
+    requires { ⌜ Sized ns (now firsts) (now starts) × Above ns (now parents) ⌝ }
+    requires { ⌜ ns < length (now to) ⌝ }
+    ensures { λ _. ⌜ ((S : Shape) → Given S ns (now (firsts .entry)) (now (starts .entry)) (now (parents .entry)) → Weighed S ns (now (to .exit))) ⌝ }
+{
+    weights(ns, firsts, starts, to);
+    raise_loads(ns, parents, to);
+}
+
+// The first supernodes of the subtrees.
+fn begins(ns: usize, parents: &[usize], to: &mut [usize])
+    requires { ⌜ Above ns (now parents) ⌝ }
+    requires { ⌜ ns < length (now to) ⌝ }
+    ensures { λ _. ⌜ ((S : Shape) → Parented S ns (now (parents .entry)) → Holds (begin S) ns (now (to .exit))) ⌝ }
+{
+    own_begins(ns, to);
+    raise_begins(ns, parents, to);
+}
+
+// What the split reads, in the words: the loads, from ns + 1 the first supernodes of the subtrees, from 2 ns + 2 the parents.
+fn table(ns: usize, firsts: &[usize], starts: &[usize], parents: &[usize], words: &mut [usize])
+    requires { ⌜ Sized ns (now firsts) (now starts) × Above ns (now parents) ⌝ }
+    requires { ⌜ (ns ≤ 32768) × (3 * ns + 3 ≤ length (now words)) ⌝ }
+    ensures { λ _. ⌜ ((S : Shape) → Given S ns (now (firsts .entry)) (now (starts .entry)) (now (parents .entry)) → Spread S ns (now (words .exit))) ⌝ }
+    ensures { λ _. ⌜ Above ns (drop (2 * ns + 2) (now (words .exit))) ⌝ }
+{
+    loads(ns, firsts, starts, parents, words);
+    let b = ns + 1;
+    begins(ns, parents, &mut words[b..]);
+    let p = 2 * ns + 2;
+    copy_part(ns, parents, &mut words[p..]);
+}
+
+// The tasks and the top by those tables.
+fn cut_by(ns: usize, words: &[usize], tasks: &mut [usize], top: &mut [usize]) -> Cuts
+    requires { ⌜ (ns ≤ 32768) × (3 * ns + 3 ≤ length (now words)) × Above ns (drop (2 * ns + 2) (now words)) ⌝ }
+    requires { ⌜ (2 * ns ≤ length (now tasks)) × (ns ≤ length (now top)) ⌝ }
+    ensures { λ r. ⌜ ((S : Shape) → supernodes S ≡ ns → Spread S ns (now (words .entry)) → Cut (splitOf S) (now (tasks .entry)) (now (top .entry)) (now (tasks .exit)) (now (top .exit)) (r .tasks) (r .top)) ⌝ }
+{
+    let b = ns + 1;
+    let p = 2 * ns + 2;
+    let most = share(words[ns]);
+    cut(ns, &words[p..], &words[b..], &words[..b], most, tasks, top)
+}
+
+// The tasks and the top of ns supernodes, whose parents stand in tasks from n on; the words are scratch.
 pub fn split(
+    n: usize,
     ns: usize,
     firsts: &[usize],
     starts: &[usize],
-    parents: &[usize],
-    loads: &mut [usize],
-    begins: &mut [usize],
     tasks: &mut [usize],
     top: &mut [usize],
+    words: &mut [usize],
 ) -> Cuts
-    requires { ⌜ Sized ns (now firsts) (now starts) × Above ns (now parents) ⌝ }
-    requires { ⌜ (ns < length (now loads)) × (ns < length (now begins)) ⌝ }
+    requires { ⌜ (n ≤ length (now tasks)) × Sized ns (now firsts) (now starts) × Above ns (drop n (now tasks)) ⌝ }
+    requires { ⌜ (ns ≤ 32768) × (3 * ns + 3 ≤ length (now words)) ⌝ }
     requires { ⌜ (2 * ns ≤ length (now tasks)) × (ns ≤ length (now top)) ⌝ }
-    ensures { λ r. ⌜ ((S : Shape) → Given S ns (now (firsts .entry)) (now (starts .entry)) (now (parents .entry)) → Parts (splitOf S) (now (tasks .entry)) (now (top .entry)) (now (tasks .exit)) (now (top .exit)) (r .tasks) (r .top)) ⌝ }
+    ensures { λ r. ⌜ ((S : Shape) → Given S ns (now (firsts .entry)) (now (starts .entry)) (drop n (now (tasks .entry))) → Parts (splitOf S) (now (tasks .entry)) (now (top .entry)) (now (tasks .exit)) (now (top .exit)) (r .tasks) (r .top)) ⌝ }
 {
-    weights(ns, firsts, starts, loads);
-    raise_loads(ns, parents, loads);
-    own_begins(ns, begins);
-    raise_begins(ns, parents, begins);
-    let most = share(loads[ns]);
-    cut(ns, parents, begins, loads, most, tasks, top)
+    table(ns, firsts, starts, &tasks[n..], words);
+    clear_words(tasks);
+    clear_words(top);
+    cut_by(ns, words, tasks, top)
 }

@@ -1,69 +1,73 @@
--- `tasks::split` meets its contract: call by call. Assumes nothing.
-use Rattle.tasks.proofs.Splitting.{own-holds, parts}
-use Rattle.tasks.proofs.Weighing.{weights-little}
+use Rattle.tasks.proofs.Splitting.{parts-of}
+use Rattle.areas.proofs.Tail.{tail-lent}
 use native.Mathlib.Omega.{arith}
+use borrow.Author.Needs.{needs}
 use Rattle.tasks.proofs.split.Statement.{statement}
 use Rattle.tasks.proofs.split.Tie as tie
 
-weights-requires : tie.Need-weights-requires
-weights-requires c κs =
+mul-table : tie.Need-mul-table
+mul-table c = search needs
+
+sub-table : tie.Need-sub-table
+sub-table c = search needs
+
+part-table-start : tie.Need-part-table-start
+part-table-start c = search needs
+
+part-table-end : tie.Need-part-table-end
+part-table-end c = search needs
+
+table-requires : tie.Need-table-requires
+table-requires c κs =
     let pre′ = c .before .before .before .before .before .before .before .before .pre in
-    (pre′ .0 .0, pre′ .1 .0 .0)
+    let args′ = c .before .before .before .before .before .before .before .before .args in
+    ((pre′ .0 .1, rw (tail-lent (args′ .n) (args′ .tasks .now)) (pre′ .0 .2)), (pre′ .1 .0 .0, pre′ .1 .0 .1))
 
-raise-loads-requires : tie.Need-raise-loads-requires
-raise-loads-requires c κs =
-    let pre′ = c .before .before .before .before .before .before .before .before .before .before .before .before .pre in
-    let args′ = c .before .before .before .before .before .before .before .before .before .before .before .before .args in
-    let weights′ = c .before .before .before .weights in
-    (pre′ .0 .1, (omega (arith, pre′ .1 .0 .0), omega (arith, weights-little (args′ .ns) (args′ .firsts .now) (args′ .starts .now) (pre′ .0 .0) _ _ (weights′ .ensures))))
+clear-words-requires : tie.Need-clear-words-requires
+clear-words-requires c κs = search needs
 
-own-begins-requires : tie.Need-own-begins-requires
-own-begins-requires c κs =
-    let pre′ = c .before .before .before .before .before .before .before .before .before .before .before .before .before .before .before .before .pre in
-    pre′ .1 .0 .1
+clear-words-requires-2 : tie.Need-clear-words-requires-2
+clear-words-requires-2 c κs = search needs
 
-raise-begins-requires : tie.Need-raise-begins-requires
-raise-begins-requires c κs =
-    let pre′ = c .before .before .before .before .before .before .before .before .before .before .before .before .before .before .before .before .before .before .before .before .pre in
-    let own-begins′ = c .before .before .before .own-begins in
-    (pre′ .0 .1, (omega (arith, pre′ .1 .0 .1), own-holds _ _ _ (own-begins′ .ensures)))
-
-mul-share : tie.Need-mul-share
-mul-share c = omega arith
-
-slice-read-share : tie.Need-slice-read-share
-slice-read-share c = omega arith
-
-share-requires : tie.Need-share-requires
-share-requires c κs = tt
-
-cut-requires : tie.Need-cut-requires
-cut-requires c κs =
-    let pre′ = c .before .before .before .before .before .before .before .before .before .before .before .before .before .before .before .before .before .before .before .before .before .before .before .before .before .before .before .before .before .pre in
-    (pre′ .0 .1, ((omega (arith, pre′ .1 .0), omega (arith, pre′ .1 .0)), pre′ .1 .1))
+cut-by-requires : tie.Need-cut-by-requires
+cut-by-requires c κs =
+    let pre′ = c .before .before .before .before .before .before .before .before .before .before .before .before .before .before .before .before .before .before .before .before .before .before .pre in
+    let table′ = c .before .before .before .before .before .before .before .before .before .before .before .before .before .table in
+    let clear-words′ = c .before .before .before .before .before .before .before .before .before .clear-words in
+    let clear-words2′ = c .before .before .before .before .before .clear-words2 in
+    ((pre′ .1 .0 .0, omega (arith, pre′ .1 .0 .1, table′ .kept), table′ .ensures .1), (omega (arith, pre′ .1 .1 .0, clear-words′ .kept), omega (arith, pre′ .1 .1 .1, clear-words2′ .kept)))
 
 same-length : tie.Need-same-length
-same-length c = omega arith
+same-length c = search needs
 
 same-length-2 : tie.Need-same-length-2
-same-length-2 c = omega arith
+same-length-2 c = search needs
 
 same-length-3 : tie.Need-same-length-3
-same-length-3 c = omega arith
-
-same-length-4 : tie.Need-same-length-4
-same-length-4 c = omega arith
+same-length-3 c = search needs
 
 returns : tie.Need-returns
 returns c =
-    let args′ = c .before .before .before .before .before .before .before .before .before .before .before .before .before .before .before .before .before .before .before .before .before .before .before .before .before .before .before .before .before .before .before .before .before .before .args in
-    let pre′ = c .before .before .before .before .before .before .before .before .before .before .before .before .before .before .before .before .before .before .before .before .before .before .before .before .before .before .before .before .before .before .before .before .before .before .pre in
-    let weights′ = c .before .before .before .before .before .before .before .before .before .before .before .before .before .before .before .before .before .before .before .before .before .before .before .before .before .weights in
-    let raise-loads′ = c .before .before .before .before .before .before .before .before .before .before .before .before .before .before .before .before .before .before .before .before .before .raise-loads in
-    let raise-begins′ = c .before .before .before .before .before .before .before .before .before .before .before .before .before .raise-begins in
-    let share′ = c .before .before .before .before .before .before .before .before .before .share in
-    let cut′ = c .before .before .before .before .cut in
-    parts (args′ .ns) (args′ .firsts .now) (args′ .starts .now) (args′ .parents .now) (pre′ .0 .0) _ _ _ _ _ (weights′ .ensures) (raise-loads′ .ensures) (raise-begins′ .ensures) (share′ .ensures) (cut′ .ensures)
+    let args′ = c .before .before .before .before .before .before .before .before .before .before .before .before .before .before .before .before .before .before .before .before .before .before .before .before .before .before .before .args in
+    let clear-words′ = c .before .before .before .before .before .before .before .before .before .before .before .before .before .before .clear-words in
+    let clear-words2′ = c .before .before .before .before .before .before .before .before .before .before .clear-words2 in
+    let cut-by′ = c .before .before .before .before .cut-by in
+    let table′ = c .before .before .before .before .before .before .before .before .before .before .before .before .before .before .before .before .before .before .table in
+    λ S g. parts-of (clear-words′ .ensures) (clear-words2′ .ensures) (cut-by′ .ensures S (g .tree .number) (table′ .ensures .0 S (rw (tail-lent (args′ .n) (args′ .tasks .now)) g)))
 
 pub split-spec : {M : Type 1} → statement M
-split-spec = tie.close (tie.spec weights-requires raise-loads-requires own-begins-requires raise-begins-requires mul-share slice-read-share share-requires cut-requires same-length same-length-2 same-length-3 same-length-4 returns)
+split-spec =
+    tie.close
+    (tie.spec
+    mul-table
+    sub-table
+    part-table-start
+    part-table-end
+    table-requires
+    clear-words-requires
+    clear-words-requires-2
+    cut-by-requires
+    same-length
+    same-length-2
+    same-length-3
+    returns)
