@@ -99,15 +99,15 @@ module _ (M : Matrix) (cap : ℕ) (early late : List Need) where
 
 -- ---- number 8
 
-module _ (S : Shape) (l : List ℕ) where
-  -- K is named before position p
-  abbrev pub Before : ℕ → ℕ → Type 0
-  Before p K = (y : ℕ) × (y < p) × (getD l y 0 ≡ K)
+-- K is named before position p of the list l
+abbrev pub Before : List ℕ → ℕ → ℕ → Type 0
+Before l p K = (y : ℕ) × (y < p) × (getD l y 0 ≡ K)
 
+module _ (S : Shape) (l : List ℕ) where
   -- the entry at position p is out of range, named before, or has a child not named before
   abbrev pub BadEntry : ℕ → Type 0
   BadEntry p =
-      (supernodes S ≤ getD l p 0) ⊎ (Before p (getD l p 0) ⊎ ((K : ℕ) × (K < supernodes S) × (parentOf S K ≡ getD l p 0) × (Before p K → ⊥)))
+      (supernodes S ≤ getD l p 0) ⊎ (Before l p (getD l p 0) ⊎ ((K : ℕ) × (K < supernodes S) × (parentOf S K ≡ getD l p 0) × (Before l p K → ⊥)))
 
   -- with the stop count t, position p is named: the supernode count, if the length is another or t is above it; else the first bad entry
   abbrev pub WrongAt : ℕ → ℕ → Type 0
