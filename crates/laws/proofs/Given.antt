@@ -1,6 +1,6 @@
 -- A number is given exactly when the table says so: analyse, factor and solve. Assumes nothing.
 use mathlib.Core.Path.{_≡_, refl, sym, ap, _∙_}
-use mathlib.Core.Logic.{_⊎_, inl, inr, ⊎-elim, _≢_, _↔_, Iff·trans}
+use mathlib.Core.Logic.{_⊎_, inl, inr, ⊎-elim, _≢_, _↔_, Iff·rfl, Iff·trans, Iff·and}
 use mathlib.Core.Bool.{Bool, true, false, cond, not, _&&_, _||_}
 use mathlib.Core.List.{List, [], _∷_, _++_}
 use mathlib.Core.Option.{Option, none, some}
@@ -9,21 +9,35 @@ use native.Mathlib.Omega.{arith}
 use native.Mathlib.Nat.{le-refl, not-suc-le-zero, eq-or-lt-of-le}
 use lib.Dec.{T, T-not, not-T, ltb, eqb, leb, eqb→eq, leb→le, le→leb, nleb→lt, ltb→lt, lt→ltb, nltb→le}
 use lib.ListN.{length, getD}
+use lib.Ieee.{Float}
 use Rattle.statement.specs.Lists.{has, least}
-use Rattle.statement.specs.Input.{Matrix, WellFormed, columnsLimit, rowsLimit, rowsLength, column, wrongStart, goodRows, +0}
+use Rattle.statement.specs.Input.{Matrix, WellFormed, columnsLimit, rowsLimit, rowsLength, column, pattern, wrongStart, goodRows, +0}
+use Rattle.statement.specs.Postorder.{permutation, toOriginal, renumbered}
 use Rattle.statement.specs.Shape.{Shape, supernodes, parentOf}
+use Rattle.statement.specs.Supernodes.{shapeOf}
 use Rattle.statement.specs.Run.{ready, firstBad, orderFault}
 use Rattle.statement.specs.Answers.{number, test, orElse, answered}
-use Rattle.statement.specs.Calls.{inputFault, wrongPosition}
+use Rattle.statement.specs.Areas.{Areas, Need, needs, short}
+use Rattle.statement.specs.Calls.{Analysis, analysis, inputFault, settled, later, structureRoom, analyseFault, analyse, orderOf, stopOf, wrongPosition, stopped, factorNeeds, factorLater, factorFault, factor}
+use Rattle.statement.specs.Solve.{FactorAreas, shapeIn, solvable, solution, solveFault, solved, solve}
 use Rattle.statement.specs.Demands.{Names}
 use Rattle.laws.specs.Built.{Sound}
-use Rattle.laws.specs.Given.{First, Before, BadEntry, WrongAt, BadStart, BadRows}
+use Rattle.laws.specs.Given.{First, Before, BadEntry, WrongAt, BadStart, BadRows, Held, InputGiven, SizesGiven, AnalyseGiven, factored, order, stop, failing, Housed, Ordered, FactorGiven, Met, scratch, Sided, SolveGiven}
+use Rattle.laws.proofs.Input.{upper}
+use Rattle.laws.proofs.FactorTree.{upper′}
+use Rattle.laws.proofs.Shapes.{shape-built}
+use Rattle.laws.proofs.Built.{sound}
 use Rattle.laws.proofs.Faults.{no-fault, good-of}
-use Rattle.laws.proofs.Exactly.{good-to, well-of, order-exactly}
-use Rattle.laws.proofs.Bools.{or-cases, or-left, or-right, eqb-of, T-dec, le-or-lt}
-use Rattle.laws.proofs.Stages.{or-reads, and-reads, not-reads, not-not-reads, nor-reads, eqb-reads, ltb-reads, nltb-reads, some-none, Found, found-same, found-step, Stage, chain, testing, Answers, opening, after, number-has, test-answers, search-answers, short-answers}
+use Rattle.laws.proofs.Exactly.{good-to, well-of, structure-never, order-exactly}
+use Rattle.laws.proofs.Bools.{or-cases, or-left, or-right, eqb-of, T-dec, T-true, T-false, le-or-lt}
+use Rattle.laws.proofs.Stages.{or-reads, and-reads, not-reads, not-not-reads, nor-reads, eqb-reads, ltb-reads, nltb-reads, some-none, Found, found-same, found-step, Stage, chain, renamed, testing, Answers, opening, after, number-has, test-answers, search-answers, short-answers, lowest, named-is, or-iff, reply, reply-accepted, reply-number, inside, has-inside}
+use Rattle.statement.specs.declared.Original.{Original}
+use Rattle.statement.specs.declared.Record.{Record}
+use Rattle.statement.specs.declared.Order.{Order}
+use Rattle.statement.specs.declared.Stop.{Stop}
+use Rattle.statement.specs.declared.Room.{Room}
 use Rattle.statement.specs.declared.Answer.{Answer}
-use Rattle.statement.specs.declared.Answer.the-variants.{OverLimit, WrongLengths, WrongStarts, WrongColumn, WrongOrder}
+use Rattle.statement.specs.declared.Answer.the-variants.{OverLimit, WrongLengths, WrongStarts, WrongColumn, ShortArea, OverCap, WrongOrder, WrongPivot, WrongSide, NoFactor, WrongStructure}
 
 -- ---- number 8
 
@@ -202,10 +216,172 @@ input M =
     let n = M .n in
     let a = rowsLength M in
     let s = testing _ _ (opening (test-answers (ltb columnsLimit n || ltb rowsLimit a) OverLimit
-        (or-reads (ltb columnsLimit n) (ltb rowsLimit a) (ltb-reads columnsLimit n) (ltb-reads rowsLimit a))
-        (nor-reads (ltb columnsLimit n) (ltb rowsLimit a) (nltb-reads columnsLimit n) (nltb-reads rowsLimit a))))
-        (testing _ _ (after (λ _. unequal (length (M .starts)) (suc n) (WrongLengths 1)))
-        (testing _ _ (after (λ _. unequal (length (M .rows)) (length (M .values)) (WrongLengths 2)))
-        (testing _ _ (after (λ _. search-answers (wrongStart M) (BadStart M) (start-reads M) (suc n) (λ p. WrongStarts p)))
-        (after (λ _. search-answers (λ k. not (goodRows k (column (M .starts) (M .rows) k))) (BadRows M) (rows-read M) n (λ k. WrongColumn (record { 0 = k }))))))) in
+    (or-reads (ltb columnsLimit n) (ltb rowsLimit a) (ltb-reads columnsLimit n) (ltb-reads rowsLimit a))
+    (nor-reads (ltb columnsLimit n) (ltb rowsLimit a) (nltb-reads columnsLimit n) (nltb-reads rowsLimit a))))
+    (testing _ _ (after (λ _. unequal (length (M .starts)) (suc n) (WrongLengths 1)))
+    (testing _ _ (after (λ _. unequal (length (M .rows)) (length (M .values)) (WrongLengths 2)))
+    (testing _ _ (after (λ _. search-answers (wrongStart M) (BadStart M) (start-reads M) (suc n) (λ p. WrongStarts p)))
+    (after (λ _. search-answers (λ k. not (goodRows k (column (M .starts) (M .rows) k))) (BadRows M) (rows-read M) n (λ k. WrongColumn (record { 0 = k }))))))) in
     record { When = s .When; given = s .given; passed = (λ h. well-of M (h .1), λ w. (tt, no-fault M w)); numbers = s .numbers }
+
+-- ---- numbers 5, 6 and 12, and what comes after
+
+-- a test that cannot fail, and no test
+never : {K : Type 0} (b : Bool) (a : Answer) → (K → b ≡ false) → Stage K (test b a none) [] K
+unfolding test
+never b a h = record {
+  When = λ x. ⊥;
+  given = λ x. (λ y. absurd (some-none (sym (rw (h (y .0)) at (y .1)))), λ z. absurd z);
+  passed = (λ y. y .0, λ k. (k, rw (h k)));
+  numbers = λ k x e. absurd (some-none (sym (rw (h k) at e)));
+}
+
+abbrev idle : {K : Type 0} (ns : List ℕ) → Stage K none ns K
+idle ns = record {
+  When = λ x. ⊥;
+  given = λ x. (λ y. some-none (sym (y .1)), λ z. absurd z);
+  passed = (λ y. y .0, λ k. (k, refl));
+  numbers = λ k x e. absurd (some-none (sym e));
+}
+
+module _ (M : Matrix) (cap : ℕ) (early late : List Need) (g : Option Answer) where
+  abbrev X : Analysis
+  X = analysis M
+
+  abbrev faults : Option Answer
+  faults = orElse (inputFault M) (orElse (short early) (test (ltb cap (X .entries)) (OverCap (X .entries) cap) (orElse (short late) (test (X .differs) WrongStructure g))))
+
+  unfoldable whole : {Q : Type 0} {ms : List ℕ} → Stage (Held M cap early late) g ms Q → Stage Unit faults (1 ∷ 2 ∷ 2 ∷ 3 ∷ 4 ∷ 5 ∷ 6 ∷ 5 ∷ ms) Q
+  whole tail =
+      chain (input M)
+      (chain (after (λ _. short-answers early))
+      (testing _ _ (after (λ _. above cap (X .entries) (OverCap (X .entries) cap)))
+      (chain (after (λ _. short-answers late))
+      (testing _ _ (never (X .differs) WrongStructure (λ h. structure-never M (h .0 .0 .0))) tail))))
+
+  module _ {Q : Type 0} (tail : Stage (Held M cap early late) g (8 ∷ 9 ∷ []) Q) (answer : Answer) (is : answer ≡ answered faults) where
+    says : (x : Answer) → number x ≢ 0 → (answer ≡ x) ↔ whole tail .When x
+    says x ne = rw is (reply faults (whole tail) x ne)
+
+    sizes-given : SizesGiven M cap early late answer
+    unfolding whole input has
+    sizes-given = record {
+      input = record {
+        overLimit = Iff·trans (says OverLimit (λ e. omega arith)) (λ h. h .0, λ h. (h, refl));
+        wrongLengths = λ x. Iff·trans (says (WrongLengths x) (λ e. omega arith)) (or-iff (Iff·and Iff·rfl (Iff·and Iff·rfl (lengths x 1))) (Iff·and Iff·rfl (Iff·and Iff·rfl (lengths x 2))));
+        wrongStarts = λ p. Iff·trans (says (WrongStarts p) (λ e. omega arith)) (Iff·and Iff·rfl (named-is (First (BadStart M) (suc (M .n))) (λ p. WrongStarts p) (λ j k e. cc) p));
+        wrongColumn = λ k. Iff·trans (says (WrongColumn k) (λ e. omega arith)) (Iff·and Iff·rfl (named-is (First (BadRows M) (M .n)) column-of column-is (k .0)));
+      };
+      shortArea = λ a d. Iff·trans (says (ShortArea a d) (λ e. omega arith)) (or-iff (Iff·and Iff·rfl (lowest early a d)) (Iff·and Iff·rfl (lowest late a d)));
+      overCap = λ x c. Iff·trans (says (OverCap x c) (λ e. omega arith)) (Iff·and Iff·rfl (Iff·and Iff·rfl (λ e. (cc, cc), λ h. cc)));
+    }
+      where
+        lengths : (x y : ℕ) → (WrongLengths x ≡ WrongLengths y) ↔ (x ≡ y)
+        lengths x y = (λ e. cc, λ e. ap WrongLengths e)
+
+        column-of : ℕ → Answer
+        column-of k = WrongColumn (record { 0 = k })
+
+        column-is : (i j : ℕ) → WrongColumn (record { 0 = i }) ≡ WrongColumn (record { 0 = j }) → i ≡ j
+        column-is i j e = let z : _≡_ {A = Original} (record { 0 = i }) (record { 0 = j }) = cc in ap (λ (k : Original). k .0) z
+
+-- ---- the calls
+
+settled-answer : (r : Room) (f : Option Answer) (R : Record) (X : Areas) → settled r f R X .returned .answer ≡ answered f
+unfolding settled answered
+settled-answer r none R X = refl
+settled-answer r (some a) R X = refl
+
+others : {Q : Type 0} {ns : List ℕ} (f : Option Answer) → Stage Unit f ns Q → (ms : List ℕ) → T (inside (0 ∷ ns) ms) → has (number (answered f)) ms ≡ true
+others {ns} f s ms t = T-true _ (has-inside (number (answered f)) (0 ∷ ns) ms t (reply-number f s))
+
+pub analyse-given : (M : Matrix) (cap : ℕ) (r : Room) → AnalyseGiven M cap r
+unfolding analyse analyseFault has inside
+analyse-given M cap r =
+    let early = needs (M .n) (rowsLength M) r in
+    let late = later (analysis M) r in
+    let f = faults M cap early late none in
+    let is : analyse M cap r .returned .answer ≡ answered f = settled-answer (structureRoom r) f _ _ in
+    record {
+      sizes = sizes-given M cap early late none (idle (8 ∷ 9 ∷ [])) (analyse M cap r .returned .answer) is;
+      accepted = rw is (reply-accepted f (whole M cap early late none (idle [])) tt);
+      others = rw is (others f (whole M cap early late none (idle [])) (0 ∷ 1 ∷ 2 ∷ 3 ∷ 4 ∷ 5 ∷ 6 ∷ []) tt);
+    }
+
+-- the structure of a well-formed matrix
+pub shape-sound : (M : Matrix) → WellFormed M → Sound (analysis M .shape)
+unfolding analysis
+shape-sound M w =
+    let p = renumbered (M .n) (permutation (pattern M) (M .n)) (pattern M) in
+    sound (shapeOf p (M .n)) (shape-built p (M .n) (upper′ (pattern M) (M .n) (upper (M .n) (M .starts) (M .rows) (w .columns))))
+
+module _ (M : Matrix) (cap : ℕ) (o : Order) (l : List ℕ) (e : Stop) (r : Room) where
+  abbrev S : Shape
+  S = analysis M .shape
+
+  abbrev c : ℕ
+  c = failing M cap o l e r
+
+  abbrev k : Original
+  k = toOriginal (analysis M .permutation) (record { 0 = c })
+
+  abbrev rest : Option Answer
+  rest = orElse (wrongPosition (orderFault S (order M cap o l e r) (stop M cap o l e r))) (test (ltb c (M .n)) (WrongPivot k) none)
+
+  unfoldable tail : Stage (Housed M cap o l e r) rest (8 ∷ 9 ∷ []) (Ordered M cap o l e r × (M .n ≤ c))
+  tail = chain (after (λ h. order-answers S (shape-sound M (h .0 .0 .0)) (order M cap o l e r) (stop M cap o l e r))) (after (λ _. test-answers (ltb c (M .n)) (WrongPivot k) (ltb-reads c (M .n)) (nltb-reads c (M .n))))
+
+  pub factor-given : FactorGiven M cap o l e r
+  unfolding factor factorFault has inside whole tail
+  factor-given =
+      let early = factorNeeds M r in
+      let late = factorLater (analysis M) r in
+      let f = faults M cap early late rest in
+      let is : factored M cap o l e r ≡ answered f = settled-answer r f _ _ in
+      let says = says M cap early late rest tail (factored M cap o l e r) is in
+      record {
+        sizes = sizes-given M cap early late rest tail (factored M cap o l e r) is;
+        wrongOrder = λ p. Iff·trans (says (WrongOrder p) (λ e. omega arith)) (Iff·and Iff·rfl (named-is (WrongAt S (order M cap o l e r) (stop M cap o l e r)) (λ p. WrongOrder p) (λ i j e. cc) p));
+        wrongPivot = λ k. Iff·trans (says (WrongPivot k) (λ e. omega arith)) (Iff·and Iff·rfl (Iff·and Iff·rfl (λ e. cc, λ e. ap WrongPivot e)));
+        accepted = rw is (reply-accepted f (whole M cap early late rest tail) tt);
+        others = rw is (others f (whole M cap early late rest tail) (0 ∷ 1 ∷ 2 ∷ 3 ∷ 4 ∷ 5 ∷ 6 ∷ 8 ∷ 9 ∷ []) tt);
+      }
+
+module _ (R : Record) (fa : FactorAreas) (b : List Float) (words floats : ℕ) where
+  abbrev f : Option Answer
+  f = solveFault R fa b words floats
+
+  scratch-short : test (ltb words (R .n)) (ShortArea 7 (R .n)) (test (ltb floats (R .n)) (ShortArea 8 (R .n)) none) ≡ short (scratch R fa b words floats)
+  unfolding short
+  scratch-short = ap (λ x. test (ltb words (R .n)) (ShortArea 7 (R .n)) x) (same (ltb floats (R .n)) (ShortArea 8 (R .n)) none) ∙ same (ltb words (R .n)) (ShortArea 7 (R .n)) _
+    where
+      same : (b : Bool) (a : Answer) (g : Option Answer) → test b a g ≡ cond b (some a) g
+      same true a g = unfold test in refl
+      same false a g = unfold test in refl
+
+  unfoldable solving : Stage Unit f (11 ∷ 10 ∷ 5 ∷ []) (Sided R fa b words floats × Met (scratch R fa b words floats))
+  unfolding solveFault
+  solving =
+      testing _ _ (opening (test-answers (not (solvable R fa)) NoFactor (T-false (solvable R fa), λ e. rw e tt) (not-not-reads (solvable R fa) (T-true (solvable R fa), λ e. rw e tt))))
+      (testing _ _ (after (λ _. unequal (length b) (R .n) (WrongSide (length b))))
+      (renamed scratch-short (after (λ _. short-answers (scratch R fa b words floats)))))
+
+  solve-is : solve R fa b words floats .answer ≡ answered f
+  unfolding solve solved answered
+  solve-is = go f
+    where
+      go : (f : Option Answer) → solved f b (solution (R .n) (fa .permutation) (shapeIn R fa) (fa .values) b) words floats .answer ≡ answered f
+      go none = refl
+      go (some a) = refl
+
+  pub solve-given : SolveGiven R fa b words floats
+  unfolding has inside solving
+  solve-given =
+      let says : (x : Answer) → number x ≢ 0 → (solve R fa b words floats .answer ≡ x) ↔ solving .When x = λ x ne. rw solve-is (reply f solving x ne) in
+      record {
+        noFactor = Iff·trans (says NoFactor (λ e. omega arith)) (λ h. h .0, λ h. (h, refl));
+        wrongSide = λ x. Iff·trans (says (WrongSide x) (λ e. omega arith)) (Iff·and Iff·rfl (Iff·and Iff·rfl (λ e. cc, λ e. ap WrongSide e)));
+        shortArea = λ a d. Iff·trans (says (ShortArea a d) (λ e. omega arith)) (Iff·and Iff·rfl (lowest (scratch R fa b words floats) a d));
+        accepted = rw solve-is (reply-accepted f solving tt);
+        others = rw solve-is (others f solving (0 ∷ 5 ∷ 10 ∷ 11 ∷ []) tt);
+      }

@@ -1,5 +1,5 @@
 -- Tests in order: what each answers exactly when, put together once for all calls. Assumes nothing.
-use mathlib.Core.Path.{_≡_, refl, sym, ap, _∙_}
+use mathlib.Core.Path.{_≡_, refl, sym, ap, _∙_, subst}
 use mathlib.Core.Logic.{_⊎_, inl, inr, ⊎-elim, _≢_, _↔_}
 use mathlib.Core.Bool.{Bool, true, false, cond, not, _&&_, _||_}
 use mathlib.Core.List.{List, [], _∷_, _++_}
@@ -47,6 +47,9 @@ ltb-reads m n = (ltb→lt m n, lt→ltb m n)
 pub nltb-reads : (m n : ℕ) → T (not (ltb m n)) ↔ (n ≤ m)
 nltb-reads m n = (nltb→le m n, λ h. not-T (ltb m n) (λ t. absurd (omega (arith, ltb→lt m n t))))
 
+pub or-iff : {A B C D : Type 0} → A ↔ C → B ↔ D → (A ⊎ B) ↔ (C ⊎ D)
+or-iff p q = (⊎-elim (λ x. inl (p .0 x)) (λ y. inr (q .0 y)), ⊎-elim (λ x. inl (p .1 x)) (λ y. inr (q .1 y)))
+
 -- ---- the first that passes
 
 pub some-none : {A : Type 0} {a : A} → some a ≡ none → ⊥
@@ -55,6 +58,10 @@ some-none e = let z : _≡_ {A = ℕ} 0 1 = cc in omega arith
 -- x is c of the first number below m of which P holds
 abbrev pub Found : {A : Type 0} → (ℕ → Type 0) → ℕ → (ℕ → A) → A → Type 0
 Found P m c x = (k : ℕ) × First P m k × (x ≡ c k)
+
+-- a number that is told by c
+pub named-is : {A : Type 0} (W : ℕ → Type 0) (c : ℕ → A) → ((j k : ℕ) → c j ≡ c k → j ≡ k) → (q : ℕ) → ((k : ℕ) × W k × (c q ≡ c k)) ↔ W q
+named-is W c one q = (λ z. subst W (one (z .0) q (sym (z .2))) (z .1), λ w. (q, w, refl))
 
 pub found-same : {A : Type 0} (P P′ : ℕ → Type 0) (m : ℕ) (c : ℕ → A) (x : A) → ((i : ℕ) → i < m → P i ↔ P′ i) → Found P m c x ↔ Found P′ m c x
 found-same P P′ m c x h = (go P P′ (λ i l. h i l .0) (λ i l. h i l .1), go P′ P (λ i l. h i l .1) (λ i l. h i l .0))

@@ -62,7 +62,7 @@ module _ (M : Matrix) where
   pub record InputGiven (answer : Answer) : Type 0 where
     pub overLimit : (answer ≡ OverLimit) ↔ ((columnsLimit < M .n) ⊎ (rowsLimit < rowsLength M))
     pub wrongLengths : (x : ℕ) → (answer ≡ WrongLengths x) ↔
-        ((Limited × (length (M .starts) ≢ suc (M .n)) × (x ≡ 1)) ⊎ (Counted × (length (M .rows) ≢ length (M .values)) × (x ≡ 2)))
+        ((Limited × ((length (M .starts) ≢ suc (M .n)) × (x ≡ 1))) ⊎ (Counted × ((length (M .rows) ≢ length (M .values)) × (x ≡ 2))))
     pub wrongStarts : (p : ℕ) → (answer ≡ WrongStarts p) ↔ (Paired × First BadStart (suc (M .n)) p)
     pub wrongColumn : (k : Original) → (answer ≡ WrongColumn k) ↔ (Started × First BadRows (M .n) (k .0))
 
@@ -95,7 +95,7 @@ module _ (M : Matrix) (cap : ℕ) (early late : List Need) where
   pub record SizesGiven (answer : Answer) : Type 0 where
     pub input : InputGiven M answer
     pub shortArea : (a d : ℕ) → (answer ≡ ShortArea a d) ↔ ((WellFormed M × Lowest early a d) ⊎ (Capped × Lowest late a d))
-    pub overCap : (x c : ℕ) → (answer ≡ OverCap x c) ↔ (Roomy × (cap < analysis M .entries) × (x ≡ analysis M .entries) × (c ≡ cap))
+    pub overCap : (x c : ℕ) → (answer ≡ OverCap x c) ↔ (Roomy × ((cap < analysis M .entries) × ((x ≡ analysis M .entries) × (c ≡ cap))))
 
 -- ---- number 8
 
@@ -152,7 +152,7 @@ module _ (M : Matrix) (cap : ℕ) (o : Order) (l : List ℕ) (e : Stop) (r : Roo
   pub record FactorGiven : Type 0 where
     pub sizes : SizesGiven M cap (factorNeeds M r) (factorLater X r) factored
     pub wrongOrder : (p : ℕ) → (factored ≡ WrongOrder p) ↔ (Housed × WrongAt (X .shape) order stop p)
-    pub wrongPivot : (k : Original) → (factored ≡ WrongPivot k) ↔ (Ordered × (failing < M .n) × (k ≡ toOriginal (X .permutation) (record { 0 = failing })))
+    pub wrongPivot : (k : Original) → (factored ≡ WrongPivot k) ↔ (Ordered × ((failing < M .n) × (k ≡ toOriginal (X .permutation) (record { 0 = failing }))))
     pub accepted : (factored ≡ Accepted) ↔ (Ordered × (M .n ≤ failing))
     pub others : has (number factored) (0 ∷ 1 ∷ 2 ∷ 3 ∷ 4 ∷ 5 ∷ 6 ∷ 8 ∷ 9 ∷ []) ≡ true
 
@@ -169,7 +169,7 @@ module _ (R : Record) (f : FactorAreas) (b : List Float) (words floats : ℕ) wh
 
   pub record SolveGiven : Type 0 where
     pub noFactor : (solved ≡ NoFactor) ↔ (solvable R f ≡ false)
-    pub wrongSide : (x : ℕ) → (solved ≡ WrongSide x) ↔ ((solvable R f ≡ true) × (length b ≢ R .n) × (x ≡ length b))
+    pub wrongSide : (x : ℕ) → (solved ≡ WrongSide x) ↔ ((solvable R f ≡ true) × ((length b ≢ R .n) × (x ≡ length b)))
     pub shortArea : (a d : ℕ) → (solved ≡ ShortArea a d) ↔ (Sided × Lowest scratch a d)
     pub accepted : (solved ≡ Accepted) ↔ (Sided × Met scratch)
     pub others : has (number solved) (0 ∷ 5 ∷ 10 ∷ 11 ∷ []) ≡ true
