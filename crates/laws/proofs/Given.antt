@@ -4,33 +4,36 @@ use mathlib.Core.Logic.{_⊎_, inl, inr, ⊎-elim, _≢_, _↔_, Iff·rfl, Iff·
 use mathlib.Core.Bool.{Bool, true, false, cond, not, _&&_, _||_}
 use mathlib.Core.List.{List, [], _∷_, _++_}
 use mathlib.Core.Option.{Option, none, some}
-use Prim.Native.Nat.{ℕ, zero, suc, _+_, _-_, _≤_, _<_}
+use Prim.Native.Nat.{ℕ, zero, suc, _+_, _-_, _≤_, _<_, min}
 use native.Mathlib.Omega.{arith}
 use native.Mathlib.Nat.{le-refl, not-suc-le-zero, eq-or-lt-of-le}
-use lib.Dec.{T, T-not, not-T, ltb, eqb, leb, eqb→eq, leb→le, le→leb, nleb→lt, ltb→lt, lt→ltb, nltb→le}
-use lib.ListN.{length, getD}
+use lib.Dec.{T, T-not, not-T, ltb, eqb, leb, eqb→eq, eqb-refl, leb→le, le→leb, nleb→lt, ltb→lt, lt→ltb, nltb→le}
+use lib.ListN.{length, getD, take}
 use lib.Ieee.{Float}
 use Rattle.statement.specs.Lists.{has, least}
 use Rattle.statement.specs.Input.{Matrix, WellFormed, columnsLimit, rowsLimit, rowsLength, column, pattern, wrongStart, goodRows, +0}
 use Rattle.statement.specs.Postorder.{permutation, toOriginal, renumbered}
 use Rattle.statement.specs.Shape.{Shape, supernodes, parentOf}
 use Rattle.statement.specs.Supernodes.{shapeOf}
-use Rattle.statement.specs.Run.{ready, firstBad, orderFault}
+use Rattle.statement.specs.Run.{State, start, Fate, done, failed, skipped, fate, run, ready, firstBad, orderFault}
 use Rattle.statement.specs.Answers.{number, test, orElse, answered}
 use Rattle.statement.specs.Areas.{Areas, Need, needs, short}
-use Rattle.statement.specs.Calls.{Analysis, analysis, inputFault, settled, later, structureRoom, analyseFault, analyse, orderOf, stopOf, wrongPosition, stopped, factorNeeds, factorLater, factorFault, factor}
+use Rattle.statement.specs.Calls.{Analysis, analysis, entryA, inputFault, settled, later, structureRoom, analyseFault, analyse, orderOf, stopOf, wrongPosition, stopped, factorNeeds, factorLater, factorFault, factor}
 use Rattle.statement.specs.Solve.{FactorAreas, shapeIn, solvable, solution, solveFault, solved, solve}
 use Rattle.statement.specs.Demands.{Names}
 use Rattle.laws.specs.Built.{Sound}
-use Rattle.laws.specs.Given.{First, Before, BadEntry, WrongAt, BadStart, BadRows, Held, InputGiven, SizesGiven, AnalyseGiven, factored, order, stop, failing, Housed, Ordered, FactorGiven, Met, scratch, Sided, SolveGiven}
+use Rattle.laws.specs.Given.{First, Before, BadEntry, WrongAt, BadStart, BadRows, Held, InputGiven, SizesGiven, AnalyseGiven, factored, order, stop, ran, Fails, Housed, Ordered, FactorGiven, Met, scratch, Sided, SolveGiven}
 use Rattle.laws.proofs.Input.{upper}
 use Rattle.laws.proofs.FactorTree.{upper′}
 use Rattle.laws.proofs.Shapes.{shape-built}
 use Rattle.laws.proofs.Built.{sound}
+use Rattle.laws.proofs.Order.{named, fails, leastOf, leastOf-le}
+use Rattle.laws.proofs.Demand.{inv}
+use Rattle.laws.proofs.Names.{names-good}
 use Rattle.laws.proofs.Faults.{no-fault, good-of}
 use Rattle.laws.proofs.Exactly.{good-to, well-of, structure-never, order-exactly}
 use Rattle.laws.proofs.Bools.{or-cases, or-left, or-right, eqb-of, T-dec, T-true, T-false, le-or-lt}
-use Rattle.laws.proofs.Stages.{or-reads, and-reads, not-reads, not-not-reads, nor-reads, eqb-reads, ltb-reads, nltb-reads, some-none, Found, found-same, found-step, Stage, chain, renamed, testing, Answers, opening, after, number-has, test-answers, search-answers, short-answers, lowest, named-is, or-iff, reply, reply-accepted, reply-number, inside, has-inside}
+use Rattle.laws.proofs.Stages.{or-reads, and-reads, not-reads, not-not-reads, nor-reads, eqb-reads, ltb-reads, nltb-reads, some-none, Found, found-same, found-step, Stage, chain, renamed, testing, Answers, opening, after, number-has, test-answers, search-answers, least-answers, short-answers, lowest, named-is, or-iff, reply, reply-accepted, reply-number, inside, has-inside}
 use Rattle.statement.specs.declared.Original.{Original}
 use Rattle.statement.specs.declared.Record.{Record}
 use Rattle.statement.specs.declared.Order.{Order}
@@ -42,13 +45,11 @@ use Rattle.statement.specs.declared.Answer.the-variants.{OverLimit, WrongLength
 -- ---- number 8
 
 -- those named before position k of the list r, after those on a
-unfoldable seen : List ℕ → List ℕ → ℕ → List ℕ
-seen a r zero = a
-seen a [] (suc k) = a
-seen a (J ∷ r) (suc k) = seen (J ∷ a) r k
+abbrev seen : List ℕ → List ℕ → ℕ → List ℕ
+seen a r k = named a (take k r)
 
 seen-reads : (x : ℕ) (a r : List ℕ) (k : ℕ) → k ≤ length r → T (has x (seen a r k)) ↔ (T (has x a) ⊎ Before r k x)
-unfolding seen has
+unfolding has
 seen-reads x a r zero h = (inl, ⊎-elim (λ t. t) (λ z. absurd (not-suc-le-zero (z .1))))
 seen-reads x a [] (suc k) h = absurd (not-suc-le-zero h)
 seen-reads x a (J ∷ r) (suc k) h = go (seen-reads x (J ∷ a) r k (omega arith))
@@ -71,6 +72,10 @@ parts : (a b c : Bool) → T (not (a && not b && c)) ↔ (T (not a) ⊎ (T b ⊎
 parts true true c = (λ _. inr (inl tt), λ _. tt)
 parts true false c = (λ t. inr (inr (tt, t)), ⊎-elim (λ u. absurd u) (⊎-elim (λ u. absurd u) (λ u. u .1)))
 parts false b c = (λ _. inl tt, λ _. tt)
+
+before-reads : (x : ℕ) (r : List ℕ) (k : ℕ) → k ≤ length r → T (has x (seen [] r k)) ↔ Before r k x
+unfolding has
+before-reads x r k h = let s = seen-reads x [] r k h in (λ t. ⊎-elim (λ u. absurd u) (λ z. z) (s .0 t), λ z. s .1 (inr z))
 
 module _ (S : Shape) where
   -- one of J's children below M is not on the list
@@ -116,7 +121,7 @@ module _ (S : Shape) where
 
   -- the search as the first bad entry
   bad-given : (a r : List ℕ) (p q : ℕ) → (firstBad S a r p ≡ some q) ↔ Found (Bad a r) (length r) (λ k. p + k) q
-  unfolding firstBad good seen
+  unfolding firstBad good
   bad-given a [] p q = (λ e. absurd (some-none (sym e)), λ h. absurd (not-suc-le-zero (h .1 .below)))
   bad-given a (J ∷ r) p q = rw (swap (good a J)) (found-step (Bad a (J ∷ r)) (length r) (λ k. p + k) (λ k. suc p + k) q (not (good a J)) (firstBad S (J ∷ a) r (suc p)) (λ t. t, λ t. t) (λ i. omega arith) (bad-given (J ∷ a) r (suc p) q))
     where
@@ -146,7 +151,7 @@ module _ (S : Shape) where
         J = getD l k 0
 
         on : (x : ℕ) → T (has x (seen [] l k)) ↔ Before l k x
-        on x = let s = seen-reads x [] l k (omega arith) in (λ t. ⊎-elim (λ u. absurd u) (λ z. z) (s .0 t), λ z. s .1 (inr z))
+        on x = before-reads x l k (omega arith)
 
     -- number 8's position
     order-given : (t p : ℕ) → (orderFault S l t ≡ some p) ↔ WrongAt S l t p
@@ -191,6 +196,51 @@ order-answers S ok l t = record {
   numbers = λ x z. number-has (WrongOrder (z .0)) x (z .2);
 }
 
+-- ---- number 9
+
+least-failed : (n : ℕ) (f : ℕ → Fate) (l : List ℕ) → leastOf n f l < n → (K : ℕ) × T (has K l) × (f K ≡ failed (leastOf n f l))
+unfolding leastOf has
+least-failed n f [] h = absurd (omega arith)
+least-failed n f (J ∷ l) h = go (f J) refl h (least-failed n f l)
+  where
+    m : ℕ
+    m = leastOf n f l
+
+    old : (k : ℕ) → k ≡ m → k < n → (m < n → (K : ℕ) × T (has K l) × (f K ≡ failed m)) → (K : ℕ) × T (eqb J K || has K l) × (f K ≡ failed k)
+    old k q h ih = let z = ih (omega arith) in rw q (z .0, or-right (eqb J (z .0)) _ (z .1), z .2)
+
+    go : (x : Fate) → f J ≡ x → min (fails n x) m < n → (m < n → (K : ℕ) × T (has K l) × (f K ≡ failed m)) → (K : ℕ) × T (eqb J K || has K l) × (f K ≡ failed (min (fails n x) m))
+    go (done g) e h ih = old (min n m) (omega (arith, leastOf-le n f l)) h ih
+    go skipped e h ih = old (min n m) (omega (arith, leastOf-le n f l)) h ih
+    go (failed c) e h ih = ⊎-elim
+        (λ (u : c ≤ m). let q : min c m ≡ c = omega arith in rw q (J, or-left (eqb J J) _ (eqb-refl J), e))
+        (λ (u : m < c). old (min c m) (omega arith) h ih) (le-or-lt c m)
+
+least-below : (n : ℕ) (f : ℕ → Fate) (l : List ℕ) (K c : ℕ) → T (has K l) → f K ≡ failed c → leastOf n f l ≤ c
+unfolding leastOf has
+least-below n f [] K c h e = absurd h
+least-below n f (J ∷ l) K c h e = ⊎-elim
+    (λ u. let q : f J ≡ failed c = ap f (eqb→eq J K u) ∙ e in rw q (omega arith))
+    (λ u. omega (arith, least-below n f l K c u e)) (or-cases (eqb J K) (has K l) h)
+
+module _ (S : Shape) (A : ℕ → ℕ → Float) (ok : Sound S) (l : List ℕ) (m : Names S l) (t : ℕ) (h : t ≤ supernodes S) where
+  abbrev end : State
+  end = run S A (start S) (take t l)
+
+  abbrev Failing : ℕ → Type 0
+  Failing c = (K : ℕ) × Before l t K × (fate S A end K ≡ failed c)
+
+  low : end .least ≡ leastOf (S .n) (fate S A end) (seen [] l t)
+  low = inv S A ok l (names-good S (ok .up) l m) t .low
+
+  least-fails : end .least < S .n → Failing (end .least)
+  least-fails u =
+      let z = least-failed (S .n) (fate S A end) (seen [] l t) (omega (arith, low)) in
+      (z .0, before-reads (z .0) l t (omega (arith, m .all)) .0 (z .1), z .2 ∙ ap failed (sym low))
+
+  none-fails : (c : ℕ) → c < end .least → Failing c → ⊥
+  none-fails c u z = absurd (omega (arith, low, least-below (S .n) (fate S A end) (seen [] l t) (z .0) c (before-reads (z .0) l t (omega (arith, m .all)) .1 (z .1)) (z .2)))
+
 -- ---- numbers 1 to 4
 
 start-reads : (M : Matrix) (p : ℕ) → T (wrongStart M p) ↔ BadStart M p
@@ -220,8 +270,8 @@ input M =
     (nor-reads (ltb columnsLimit n) (ltb rowsLimit a) (nltb-reads columnsLimit n) (nltb-reads rowsLimit a))))
     (testing _ _ (after (λ _. unequal (length (M .starts)) (suc n) (WrongLengths 1)))
     (testing _ _ (after (λ _. unequal (length (M .rows)) (length (M .values)) (WrongLengths 2)))
-    (testing _ _ (after (λ _. search-answers (wrongStart M) (BadStart M) (start-reads M) (suc n) (λ p. WrongStarts p)))
-    (after (λ _. search-answers (λ k. not (goodRows k (column (M .starts) (M .rows) k))) (BadRows M) (rows-read M) n (λ k. WrongColumn (record { 0 = k }))))))) in
+    (testing _ _ (after (λ _. least-answers (wrongStart M) (BadStart M) (start-reads M) (suc n) (λ p. WrongStarts p)))
+    (after (λ _. least-answers (λ k. not (goodRows k (column (M .starts) (M .rows) k))) (BadRows M) (rows-read M) n (λ k. WrongColumn (record { 0 = k }))))))) in
     record { When = s .When; given = s .given; passed = (λ h. well-of M (h .1), λ w. (tt, no-fault M w)); numbers = s .numbers }
 
 -- ---- numbers 5, 6 and 12, and what comes after
@@ -308,6 +358,10 @@ analyse-given M cap r =
       others = rw is (others f (whole M cap early late none (idle [])) (0 ∷ 1 ∷ 2 ∷ 3 ∷ 4 ∷ 5 ∷ 6 ∷ []) tt);
     }
 
+shape-n : (M : Matrix) → analysis M .shape .n ≡ M .n
+unfolding analysis shapeOf
+shape-n M = refl
+
 -- the structure of a well-formed matrix
 pub shape-sound : (M : Matrix) → WellFormed M → Sound (analysis M .shape)
 unfolding analysis
@@ -319,17 +373,28 @@ module _ (M : Matrix) (cap : ℕ) (o : Order) (l : List ℕ) (e : Stop) (r : Roo
   abbrev S : Shape
   S = analysis M .shape
 
-  abbrev c : ℕ
-  c = failing M cap o l e r
+  abbrev s : State
+  s = ran M cap o l e r
 
-  abbrev k : Original
-  k = toOriginal (analysis M .permutation) (record { 0 = c })
+  abbrev column-at : ℕ → Answer
+  column-at c = WrongPivot (toOriginal (analysis M .permutation) (record { 0 = c }))
 
   abbrev rest : Option Answer
-  rest = orElse (wrongPosition (orderFault S (order M cap o l e r) (stop M cap o l e r))) (test (ltb c (M .n)) (WrongPivot k) none)
+  rest = orElse (wrongPosition (orderFault S (order M cap o l e r) (stop M cap o l e r))) (test (ltb (s .least) (M .n)) (column-at (s .least)) none)
 
-  unfoldable tail : Stage (Housed M cap o l e r) rest (8 ∷ 9 ∷ []) (Ordered M cap o l e r × (M .n ≤ c))
-  tail = chain (after (λ h. order-answers S (shape-sound M (h .0 .0 .0)) (order M cap o l e r) (stop M cap o l e r))) (after (λ _. test-answers (ltb c (M .n)) (WrongPivot k) (ltb-reads c (M .n)) (nltb-reads c (M .n))))
+  unfoldable tail : Stage (Housed M cap o l e r) rest (8 ∷ 9 ∷ []) (Ordered M cap o l e r × ((c : ℕ) → c < M .n → Fails M cap o l e r c → ⊥))
+  tail =
+      chain (after (λ h. order-answers S (shape-sound M (h .0 .0 .0)) (order M cap o l e r) (stop M cap o l e r)))
+      (after (λ h. search-answers (Fails M cap o l e r) (M .n) (s .least) (least h) (before h) column-at))
+    where
+      ok : Ordered M cap o l e r → Sound S
+      ok h = shape-sound M (h .0 .0 .0 .0)
+
+      least : Ordered M cap o l e r → s .least < M .n → Fails M cap o l e r (s .least)
+      least h u = unfold stopped in least-fails S (entryA M (analysis M .permutation)) (ok h) (order M cap o l e r) (h .1 .0) (stop M cap o l e r) (h .1 .1) (omega (arith, shape-n M))
+
+      before : Ordered M cap o l e r → (i : ℕ) → i < s .least → i < M .n → Fails M cap o l e r i → ⊥
+      before h i u _ = unfold stopped in none-fails S (entryA M (analysis M .permutation)) (ok h) (order M cap o l e r) (h .1 .0) (stop M cap o l e r) (h .1 .1) i u
 
   pub factor-given : FactorGiven M cap o l e r
   unfolding factor factorFault has inside whole tail
@@ -342,10 +407,13 @@ module _ (M : Matrix) (cap : ℕ) (o : Order) (l : List ℕ) (e : Stop) (r : Roo
       record {
         sizes = sizes-given M cap early late rest tail (factored M cap o l e r) is;
         wrongOrder = λ p. Iff·trans (says (WrongOrder p) (λ e. omega arith)) (Iff·and Iff·rfl (named-is (WrongAt S (order M cap o l e r) (stop M cap o l e r)) (λ p. WrongOrder p) (λ i j e. cc) p));
-        wrongPivot = λ k. Iff·trans (says (WrongPivot k) (λ e. omega arith)) (Iff·and Iff·rfl (Iff·and Iff·rfl (λ e. cc, λ e. ap WrongPivot e)));
+        wrongPivot = λ k. Iff·trans (says (WrongPivot k) (λ e. omega arith)) (Iff·and Iff·rfl (λ z. (z .0, z .1, pivot k _ (z .2)), λ z. (z .0, z .1, ap WrongPivot (z .2))));
         accepted = rw is (reply-accepted f (whole M cap early late rest tail) tt);
         others = rw is (others f (whole M cap early late rest tail) (0 ∷ 1 ∷ 2 ∷ 3 ∷ 4 ∷ 5 ∷ 6 ∷ 8 ∷ 9 ∷ []) tt);
       }
+    where
+      pivot : (i j : Original) → WrongPivot i ≡ WrongPivot j → i ≡ j
+      pivot i j e = cc
 
 module _ (R : Record) (fa : FactorAreas) (b : List Float) (words floats : ℕ) where
   abbrev f : Option Answer

@@ -1,6 +1,6 @@
 -- Tests in order: what each answers exactly when, put together once for all calls. Assumes nothing.
 use mathlib.Core.Path.{_≡_, refl, sym, ap, _∙_, subst}
-use mathlib.Core.Logic.{_⊎_, inl, inr, ⊎-elim, _≢_, _↔_}
+use mathlib.Core.Logic.{_⊎_, inl, inr, ⊎-elim, _≢_, _↔_, Iff·trans}
 use mathlib.Core.Bool.{Bool, true, false, cond, not, _&&_, _||_}
 use mathlib.Core.List.{List, [], _∷_, _++_}
 use mathlib.Core.Option.{Option, none, some}
@@ -223,35 +223,36 @@ test-answers false a t n = record {
   numbers = λ x h. number-has a x (h .1);
 }
 
-module _ (f : ℕ → Bool) (P : ℕ → Type 0) (reads : (i : ℕ) → T (f i) ↔ P i) (m : ℕ) (c : ℕ → Answer) where
-  abbrev at : ℕ
-  at = least f 0 m
-
-  found-least : (x : Answer) → ((at < m) × (x ≡ c at)) ↔ Found P m c x
-  found-least x = (
-    λ h. (at, record { below = h .0; holds = reads at .0 (least-is f 0 m .at (omega (arith, h .0))); before = λ i l p. least-is f 0 m .none i (omega arith) l (reads i .1 p) }, h .1),
+-- a search that comes to `at`: the first number below m of which P holds, if there is one
+module _ (P : ℕ → Type 0) (m at : ℕ) (holds : at < m → P at) (before : (i : ℕ) → i < at → i < m → P i → ⊥) (c : ℕ → Answer) where
+  found-at : (x : Answer) → ((at < m) × (x ≡ c at)) ↔ Found P m c x
+  found-at x = (
+    λ h. (at, record { below = h .0; holds = holds (h .0); before = λ i l. before i l (omega (arith, h .0)) }, h .1),
     λ (k, g, e). let q = same k g in (omega (arith, g .below), e ∙ ap c q),
   )
     where
       same : (k : ℕ) → First P m k → k ≡ at
       same k g = ⊎-elim
-          (λ (l : k ≤ at). ⊎-elim (λ (u : at ≤ k). omega arith) (λ (u : k < at). absurd (least-is f 0 m .none k (omega arith) u (reads k .1 (g .holds)))) (le-or-lt at k))
-          (λ (l : at < k). absurd (g .before at l (reads at .0 (least-is f 0 m .at (omega (arith, g .below)))))) (le-or-lt k at)
+          (λ (l : k ≤ at). ⊎-elim (λ (u : at ≤ k). omega arith) (λ (u : k < at). absurd (before k u (g .below) (g .holds))) (le-or-lt at k))
+          (λ (l : at < k). absurd (g .before at l (holds (omega (arith, g .below))))) (le-or-lt k at)
 
-  none-least : (m ≤ at) ↔ ((i : ℕ) → i < m → P i → ⊥)
-  none-least = (
-    λ h i l p. least-is f 0 m .none i (omega arith) (omega arith) (reads i .1 p),
-    λ h. ⊎-elim (λ (l : at < m). absurd (h at l (reads at .0 (least-is f 0 m .at (omega arith))))) (λ (l : m ≤ at). l) (lt-or-le at m),
-  )
+  none-at : (m ≤ at) ↔ ((i : ℕ) → i < m → P i → ⊥)
+  none-at = (λ h i l. before i (omega arith) l, λ h. ⊎-elim (λ (l : at < m). absurd (h at l (holds l))) (λ (l : m ≤ at). l) (lt-or-le at m))
 
   pub search-answers : Answers (test (ltb at m) (c at) none) (number (c at) ∷ []) (Found P m c) ((i : ℕ) → i < m → P i → ⊥)
   search-answers =
       let s = test-answers (ltb at m) (c at) (ltb-reads at m) (nltb-reads at m) in
       record {
-        given = λ x. (λ e. found-least x .0 (s .given x .0 e), λ h. s .given x .1 (found-least x .1 h));
-        passed = (λ e. none-least .0 (s .passed .0 e), λ h. s .passed .1 (none-least .1 h));
-        numbers = λ x h. s .numbers x (found-least x .1 h);
+        given = λ x. Iff·trans (s .given x) (found-at x);
+        passed = Iff·trans (s .passed) none-at;
+        numbers = λ x h. s .numbers x (found-at x .1 h);
       }
+
+pub least-answers : (f : ℕ → Bool) (P : ℕ → Type 0) → ((i : ℕ) → T (f i) ↔ P i) → (m : ℕ) (c : ℕ → Answer)
+    → Answers (test (ltb (least f 0 m) m) (c (least f 0 m)) none) (number (c (least f 0 m)) ∷ []) (Found P m c) ((i : ℕ) → i < m → P i → ⊥)
+least-answers f P reads m c =
+    let s = least-is f 0 m in
+    search-answers P m (least f 0 m) (λ h. reads (least f 0 m) .0 (s .at (omega arith))) (λ i l _ p. s .none i (omega arith) l (reads i .1 p)) c
 
 abbrev pub named : List Need → ℕ → Answer
 named l k = ShortArea (nth l k .area) (nth l k .need)

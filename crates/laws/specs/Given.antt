@@ -11,9 +11,10 @@ use Rattle.statement.specs.Lists.{has}
 use Rattle.statement.specs.Input.{Matrix, WellFormed, columnsLimit, rowsLimit, rowsLength, column}
 use Rattle.statement.specs.Postorder.{toOriginal}
 use Rattle.statement.specs.Shape.{Shape, supernodes, parentOf}
+use Rattle.statement.specs.Run.{State, failed, fate}
 use Rattle.statement.specs.Answers.{number}
 use Rattle.statement.specs.Areas.{Need, needs}
-use Rattle.statement.specs.Calls.{Analysis, analysis, later, analyse, factorNeeds, factorLater, orderOf, stopOf, stopped, factor}
+use Rattle.statement.specs.Calls.{Analysis, analysis, entryA, later, analyse, factorNeeds, factorLater, orderOf, stopOf, stopped, factor}
 use Rattle.statement.specs.Solve.{FactorAreas, solvable, solve}
 use Rattle.statement.specs.Demands.{Names}
 use Rattle.statement.specs.declared.Original.{Original}
@@ -139,9 +140,12 @@ module _ (M : Matrix) (cap : ℕ) (o : Order) (l : List ℕ) (e : Stop) (r : Roo
   abbrev pub stop : ℕ
   stop = stopOf (X .shape) e
 
-  -- the least failing factor column within the first t, n if there is none
-  abbrev pub failing : ℕ
-  failing = stopped M X o l stop .least
+  abbrev pub ran : State
+  ran = stopped M X o l stop
+
+  -- column c fails within the first t: a supernode named there, none of whose children is halted, breaks the rule at c
+  abbrev pub Fails : ℕ → Type 0
+  Fails c = (K : ℕ) × Before order stop K × (fate (X .shape) (entryA M (X .permutation)) ran K ≡ failed c)
 
   abbrev pub Housed : Type 0
   Housed = Held M cap (factorNeeds M r) (factorLater X r)
@@ -152,8 +156,8 @@ module _ (M : Matrix) (cap : ℕ) (o : Order) (l : List ℕ) (e : Stop) (r : Roo
   pub record FactorGiven : Type 0 where
     pub sizes : SizesGiven M cap (factorNeeds M r) (factorLater X r) factored
     pub wrongOrder : (p : ℕ) → (factored ≡ WrongOrder p) ↔ (Housed × WrongAt (X .shape) order stop p)
-    pub wrongPivot : (k : Original) → (factored ≡ WrongPivot k) ↔ (Ordered × ((failing < M .n) × (k ≡ toOriginal (X .permutation) (record { 0 = failing }))))
-    pub accepted : (factored ≡ Accepted) ↔ (Ordered × (M .n ≤ failing))
+    pub wrongPivot : (k : Original) → (factored ≡ WrongPivot k) ↔ (Ordered × ((c : ℕ) × First Fails (M .n) c × (k ≡ toOriginal (X .permutation) (record { 0 = c }))))
+    pub accepted : (factored ≡ Accepted) ↔ (Ordered × ((c : ℕ) → c < M .n → Fails c → ⊥))
     pub others : has (number factored) (0 ∷ 1 ∷ 2 ∷ 3 ∷ 4 ∷ 5 ∷ 6 ∷ 8 ∷ 9 ∷ []) ≡ true
 
 module _ (R : Record) (f : FactorAreas) (b : List Float) (words floats : ℕ) where
