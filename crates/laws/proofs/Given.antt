@@ -2,12 +2,12 @@
 use mathlib.Core.Path.{_≡_, refl, sym, ap, _∙_}
 use mathlib.Core.Logic.{_⊎_, inl, inr, ⊎-elim, _≢_, _↔_, Iff·rfl, Iff·trans, Iff·and}
 use mathlib.Core.Bool.{Bool, true, false, cond, not, _&&_, _||_}
-use mathlib.Core.List.{List, [], _∷_, _++_}
+use mathlib.Core.List.{List, [], _∷_}
 use mathlib.Core.Option.{Option, none, some}
 use Prim.Native.Nat.{ℕ, zero, suc, _+_, _-_, _≤_, _<_, min}
 use native.Mathlib.Omega.{arith}
 use native.Mathlib.Nat.{le-refl, not-suc-le-zero, eq-or-lt-of-le}
-use lib.Dec.{T, T-not, not-T, ltb, eqb, leb, eqb→eq, eqb-refl, leb→le, le→leb, nleb→lt, ltb→lt, lt→ltb, nltb→le}
+use lib.Dec.{T, T-not, not-T, ltb, eqb, leb, eqb→eq, eqb-refl, leb→le, le→leb, ltb→lt, nltb→le}
 use lib.ListN.{length, getD, take}
 use lib.Ieee.{Float}
 use Rattle.statement.specs.Lists.{has, least}
@@ -18,11 +18,11 @@ use Rattle.statement.specs.Supernodes.{shapeOf}
 use Rattle.statement.specs.Run.{State, start, Fate, done, failed, skipped, fate, run, ready, firstBad, orderFault}
 use Rattle.statement.specs.Answers.{number, test, orElse, answered}
 use Rattle.statement.specs.Areas.{Areas, Need, needs, short}
-use Rattle.statement.specs.Calls.{Analysis, analysis, entryA, inputFault, settled, later, structureRoom, analyseFault, analyse, orderOf, stopOf, wrongPosition, stopped, factorNeeds, factorLater, factorFault, factor}
+use Rattle.statement.specs.Calls.{Analysis, analysis, entryA, inputFault, settled, later, structureRoom, analyseFault, analyse, wrongPosition, stopped, factorNeeds, factorLater, factorFault, factor}
 use Rattle.statement.specs.Solve.{FactorAreas, shapeIn, solvable, solution, solveFault, solved, solve}
 use Rattle.statement.specs.Demands.{Names}
 use Rattle.laws.specs.Built.{Sound}
-use Rattle.laws.specs.Given.{First, Before, BadEntry, WrongAt, BadStart, BadRows, Held, InputGiven, SizesGiven, AnalyseGiven, factored, order, stop, ran, Fails, Housed, Ordered, FactorGiven, Met, scratch, Sided, SolveGiven}
+use Rattle.laws.specs.Given.{First, Before, BadEntry, WrongAt, BadStart, BadRows, Held, SizesGiven, AnalyseGiven, factored, order, stop, ran, Fails, Housed, Ordered, FactorGiven, Met, scratch, Sided, SolveGiven}
 use Rattle.laws.proofs.Input.{upper}
 use Rattle.laws.proofs.FactorTree.{upper′}
 use Rattle.laws.proofs.Shapes.{shape-built}

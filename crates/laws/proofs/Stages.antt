@@ -7,13 +7,13 @@ use mathlib.Core.Option.{Option, none, some}
 use Prim.Native.Nat.{ℕ, zero, suc, _≤_, _<_}
 use native.Mathlib.Omega.{arith}
 use native.Mathlib.Nat.{not-suc-le-zero}
-use lib.Dec.{T, T-not, not-T, ltb, eqb, leb, ltb→lt, lt→ltb, nltb→le, leb→le, le→leb, nleb→lt, eqb→eq}
+use lib.Dec.{T, T-not, not-T, ltb, eqb, ltb→lt, lt→ltb, nltb→le, eqb→eq}
 use lib.ListN.{length}
 use Rattle.statement.specs.Lists.{has, least}
 use Rattle.statement.specs.Answers.{number, test, orElse, answered}
 use Rattle.statement.specs.Areas.{Need, short}
 use Rattle.laws.specs.Given.{First, nth, Met, Lowest}
-use Rattle.laws.proofs.Bools.{or-cases, or-left, or-right, and-both, and-intro, eqb-of, T-dec, le-or-lt, lt-or-le}
+use Rattle.laws.proofs.Bools.{or-cases, or-left, or-right, and-both, and-intro, eqb-of, le-or-lt, lt-or-le}
 use Rattle.laws.proofs.Fill.{least-is}
 use Rattle.statement.specs.declared.Answer.{Answer}
 use Rattle.statement.specs.declared.Answer.the-variants.{Accepted, ShortArea}
