@@ -1,17 +1,15 @@
 -- Lists that stand one after another and are filled side by side: the law of every bucketed list. Assumes nothing.
 use mathlib.Core.Path.{_≡_, refl, sym, ap, ap₂, _∙_}
-use mathlib.Core.Logic.{_⊎_, inl, inr, ⊎-elim, _≢_}
-use mathlib.Core.Bool.{Bool, true, false, not}
-use mathlib.Core.List.{List, [], _∷_, _++_}
+use mathlib.Core.Logic.{⊎-elim, _≢_}
+use mathlib.Core.List.{List, _++_, append-assoc}
 use Prim.Native.Nat.{ℕ, zero, suc, _+_, _-_, _≤_, _<_}
 use native.Mathlib.Omega.{arith}
 use native.Mathlib.Nat.{le-refl, eq-or-lt-of-le, not-suc-le-zero}
-use native.Mathlib.Decide.{le-ind}
 use lib.ListN.{length, getD, set, take, drop, length-append, length-set, length-drop, take-append-drop, List·getD-append}
-use lib.Seq.{getD-set-same, getD-set-other, drop-set-lt, take-add, length-take-le, getD-take, getD-drop, ext-getD}
+use lib.Seq.{getD-set-same, getD-set-other, drop-set-lt, take-add, length-take-le, getD-take, getD-drop, getD-append-add, ext-getD}
 use Rattle.laws.proofs.Bools.{split-at, lt-or-le}
-use Rattle.statement.specs.Lists.{list, joined}
-use Rattle.laws.proofs.Ranks.{list-length, list-at}
+use Rattle.statement.specs.Lists.{list, joined, sum}
+use Rattle.laws.proofs.Ranks.{list-length, list-at, joined-grows}
 use Rattle.areas.specs.Buckets.{start, Holds, Buckets, Beyond}
 
 -- what lies beyond
@@ -35,7 +33,7 @@ module _ {A : Type 0} (z : A) (b : ℕ → List A) where
   start-suc k = length-append (joined b k) (b k)
 
   pub start-rise : (i j : ℕ) → i ≤ j → start b i ≤ start b j
-  start-rise i j h = le-ind (λ x. start b i ≤ start b x) (le-refl _) (λ x _ u. omega (arith, u, start-suc x)) j h
+  start-rise i j h = joined-grows b i j h
 
   pub buckets-start : (m : ℕ) (next : List ℕ) (l : List A) → m ≤ length next → start b m ≤ length l → ((j : ℕ) → j < m → getD next j 0 ≡ start b j) → Buckets z b m (λ _. 0) next l
   buckets-start m next l h k e = record { room = h; fits = k; most = λ j _. omega arith; here = λ j a. omega (arith, e j a); is = λ j q _ a. absurd (not-suc-le-zero a) }
@@ -117,3 +115,20 @@ holds-less k h w = record { fits = omega (arith, w .fits); at = λ j a. w .at j 
 
 pub holds-ext : {f : ℕ → ℕ} (g : ℕ → ℕ) {m : ℕ} {l : List ℕ} → ((j : ℕ) → j < m → f j ≡ g j) → Holds f m l → Holds g m l
 holds-ext g e w = record { fits = w .fits; at = λ j a. w .at j a ∙ e j a }
+
+-- ---- the parts that stand one after another
+
+-- where one begins: the lengths of those before
+pub start-sum : {A : Type 0} (b : ℕ → List A) (k : ℕ) → start b k ≡ sum (λ j. length (b j)) k
+unfolding sum joined
+start-sum b zero = refl
+start-sum b (suc k) = length-append (joined b k) (b k) ∙ ap (λ x. x + length (b k)) (start-sum b k)
+
+-- an element, by its place in its own part
+pub joined-at : {A : Type 0} (z : A) (b : ℕ → List A) (m : ℕ) (rest : List A) (k x : ℕ) → k < m → x < length (b k) → getD (joined b m ++ rest) (start b k + x) z ≡ getD (b k) x z
+joined-at z b zero rest k x h l = absurd (not-suc-le-zero h)
+joined-at z b (suc m) rest k x h l = ⊎-elim
+    (λ (e : suc k ≡ suc m). let q : k ≡ m = omega arith in
+    rw (joined-suc z b m, append-assoc, q) (getD-append-add (joined b m) (b m ++ rest) x z ∙ List·getD-append (b m) rest z x (rw q at l)))
+    (λ (e : suc k < suc m). rw (joined-suc z b m, append-assoc) (joined-at z b m (b m ++ rest) k x (omega arith) l))
+    (eq-or-lt-of-le h)

@@ -1,0 +1,2 @@
+pub mod Node
+pub mod Line

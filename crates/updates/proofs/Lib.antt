@@ -1,0 +1,5 @@
+pub mod Made
+pub mod Scans
+pub mod Grouped
+pub mod Turns
+pub mod Passes
