@@ -3,7 +3,7 @@ ghost use mathlib.Core.Path.{_≡_};
 ghost use mathlib.Core.Bool.{cond};
 ghost use Prim.Native.Nat.{ℕ, _+_, _-_, _*_, _<_, _≤_};
 ghost use lib.Dec.{ltb};
-ghost use lib.ListN.{getD, length};
+ghost use lib.ListN.{getD, length, take};
 ghost use lib.Ieee.{nan, binary64, add, sub, mul, div};
 ghost use Rattle.statement.specs.Input.{+0};
 ghost use Rattle.statement.specs.Shape.{trapezoid};
@@ -194,26 +194,28 @@ fn diagonal(starts: &[usize], rows: &[usize], vals: &[f64], j: usize, n: usize) 
     find(rows, vals, t0, t1, j)
 }
 
-// The dense factor of w columns of an m-row trapezoid in place; f is the first of them. The number of columns that passed.
+// The dense factor of w columns of an m-row trapezoid in place; f is the first of them. The number of columns that passed. The first a floats are
+// A's values, the work space stands after them.
 pub fn dense(
     own: &mut [f64],
-    work: &mut [f64],
+    floats: &mut [f64],
+    a: usize,
     m: usize,
     w: usize,
     f: usize,
     starts: &[usize],
     rows: &[usize],
-    vals: &[f64],
     n: usize,
 ) -> usize
-    requires { ⌜ (w ≤ m) × (m ≤ 32768) × (trapezoid m w ≤ length (now own)) × (m ≤ length (now work)) × (f + w ≤ n) ⌝ }
-    requires { ⌜ Lower (now starts) (now rows) (now vals) n ⌝ }
-    ensures { λ r. ⌜ Dense m w (λ c. lowerValue (now (starts .entry)) (now (rows .entry)) (now (vals .entry)) (f + c) (f + c)) (now (own .entry)) (now (own .exit)) r ⌝ }
+    requires { ⌜ (w ≤ m) × (m ≤ 32768) × (trapezoid m w ≤ length (now own)) × (a + m ≤ length (now floats)) × (f + w ≤ n) ⌝ }
+    requires { ⌜ Lower (now starts) (now rows) (take a (now floats)) n ⌝ }
+    ensures { λ r. ⌜ Dense m w (λ c. lowerValue (now (starts .entry)) (now (rows .entry)) (take a (now (floats .entry))) (f + c) (f + c)) (now (own .entry)) (now (own .exit)) r ⌝ }
+    ensures { λ r. ⌜ take a (now (floats .exit)) ≡ take a (now (floats .entry)) ⌝ }
 {
     let mut c = 0;
     while c < w {
-        let a = diagonal(starts, rows, vals, f + c, n);
-        if column(own, work, m, c, a) {
+        let d = diagonal(starts, rows, &floats[..a], f + c, n);
+        if column(own, &mut floats[a..], m, c, d) {
             c += 1;
         } else {
             return c;
