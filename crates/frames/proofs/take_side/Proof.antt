@@ -1,0 +1,64 @@
+use Rattle.frames.proofs.Taken.{side-yes, side-no}
+use Rattle.frames.proofs.Forms.{side-says}
+use Rattle.frames.specs.Held.{Small, After}
+use Rattle.frames.specs.declared.Progress.{Progress}
+use Rattle.statement.specs.Job.{side, takes}
+use denote.Ref.{now}
+use native.Mathlib.Omega.{arith}
+use mathlib.Core.Path.{sym, subst, _∙_}
+use borrow.Author.Needs.{needs}
+use Rattle.frames.proofs.take_side.Statement.{statement}
+use Rattle.frames.proofs.take_side.Tie as tie
+
+side-ok-requires : tie.Need-side-ok-requires
+side-ok-requires c κs = search needs
+
+to-float-requires : tie.Need-to-float-requires
+to-float-requires c κs = search needs
+
+mul-right : tie.Need-mul-right
+mul-right c = let a = c .before .before .before .before .args in
+    let u = side-says (a .p .stage) (a .p .n) (a .p .given) (a .position) (sym (c .before .before .side-ok .ensures) ∙ c .before .if1 .taken) in
+    omega (arith, u .inside, c .before .before .before .before .pre)
+
+slice-write-right : tie.Need-slice-write-right
+slice-write-right c = let a = c .before .before .before .before .args in
+    let u = side-says (a .p .stage) (a .p .n) (a .p .given) (a .position) (sym (c .before .before .side-ok .ensures) ∙ c .before .if1 .taken) in
+    omega (arith, u .inside, c .before .before .before .before .pre)
+
+add-t8 : tie.Need-add-t8
+add-t8 c = let a = c .before .before .before .before .args in
+    let u = side-says (a .p .stage) (a .p .n) (a .p .given) (a .position) (sym (c .before .before .side-ok .ensures) ∙ c .before .if1 .taken) in
+    omega (arith, u .inside, c .before .before .before .before .pre)
+
+at-fault-requires : tie.Need-at-fault-requires
+at-fault-requires c κs = search needs
+
+same-length : tie.Need-same-length
+same-length c = search needs
+
+returns : tie.Need-returns
+returns c = let b = c .before .before .before .before in
+    let a = b .args in
+    let e = sym (c .before .before .side-ok .ensures) ∙ c .before .if1 .taken in
+    (record { n = b .pre .0 .n; known = b .pre .0 .known }, λ st ro va j h. side-yes (a .p) st ro va (now (a .right)) j h (a .position) (a .bits) (c .to-float .result) e (b .pre .0 .n) (b .pre .1) (c .to-float .ensures))
+
+returns-2 : tie.Need-returns-2
+returns-2 c = let a = c .before .before .before .before .args in
+    let e = sym (c .before .before .side-ok .ensures) ∙ c .before .if1 .left in
+    let f = sym (c .at-fault .ensures) in
+    (subst Small f (record { n = omega arith; known = omega arith }), λ st ro va j h. subst (λ (r : Progress). After r st ro va (now (a .right)) (takes (j .phase) j (side (a .position) (a .bits)))) f (side-no (a .p) st ro va (now (a .right)) j h (a .position) (a .bits) e))
+
+pub take-side-spec : {M : Type 1} → statement M
+take-side-spec =
+    tie.close
+    (tie.spec
+    side-ok-requires
+    to-float-requires
+    mul-right
+    slice-write-right
+    add-t8
+    at-fault-requires
+    same-length
+    returns
+    returns-2)
