@@ -14,7 +14,7 @@ use Rattle.statement.specs.Input.{columnsLimit}
 use Rattle.statement.specs.Shape.{Shape, supernodes, first, width, height, rowsOf, offset}
 use Rattle.statement.specs.Solve.{FactorAreas, shapeIn, isFull, fullRecord, permutes, risingColumns, goodSupernode, risingRows, sized, viewable, solvable}
 use Rattle.statement.specs.declared.Record.{Record}
-use Rattle.laws.specs.Lent.{Framed, Walkable}
+use Rattle.laws.specs.Lent.{Fitted, Framed, Walkable}
 use Rattle.laws.proofs.Bools.{and-both}
 use Rattle.laws.proofs.Every.{every-at}
 use Rattle.laws.proofs.Permuted.{Permuted, permuted}
@@ -27,7 +27,7 @@ grows f zero h = omega arith
 grows f (suc k) h = omega (arith, grows f k (λ i l. h i (omega arith)), h k (omega arith))
 
 -- what never falls is at a later place not less
-climbs : (f : ℕ → ℕ) (m : ℕ) → ((i : ℕ) → i < m → f i ≤ f (suc i)) → (i j : ℕ) → i ≤ j → j ≤ m → f i ≤ f j
+pub climbs : (f : ℕ → ℕ) (m : ℕ) → ((i : ℕ) → i < m → f i ≤ f (suc i)) → (i j : ℕ) → i ≤ j → j ≤ m → f i ≤ f j
 climbs f m h i j l = le-ind (λ x. x ≤ m → f i ≤ f x) (λ _. le-refl _) (λ x _ u k. omega (arith, h x k, u (let z : x ≤ m = omega arith in z))) j l
 
 module _ (R : Record) (S : Shape) (h : T (risingColumns R S)) where
@@ -101,13 +101,6 @@ module _ (S : Shape) (K : ℕ) (h : T (goodSupernode S K)) where
 
 -- ---- together
 
--- as long as the record says
-pub record Fitted (R : Record) (S : Shape) : Type 0 where
-  pub columns : S .n ≡ R .n
-  pub firsts : length (S .firsts) ≡ suc (R .supernodes)
-  pub starts : length (S .starts) ≡ suc (R .supernodes)
-  pub rows : length (S .rows) ≡ R .rows
-
 module _ (R : Record) (S : Shape) (fit : Fitted R S) (hc : T (risingColumns R S)) where
   many : supernodes S ≡ R .supernodes
   many = omega (arith, fit .firsts)
@@ -170,18 +163,14 @@ roomy R f h =
     }
 
 -- all but (b)
-module _ (R : Record) (f : FactorAreas) where
-  S : Shape
-  S = shapeIn R f
-
-  fitted : Roomy R f → R .supernodes ≤ R .n → Fitted R S
-  unfolding S shapeIn
-  fitted r h = record {
-    columns = refl;
-    firsts = length-take-le (suc (R .supernodes)) (f .firsts) (omega (arith, r .firsts));
-    starts = length-take-le (suc (R .supernodes)) (f .starts) (omega (arith, r .starts));
-    rows = length-take-le (R .rows) (f .rows) (r .rows);
-  }
+pub fitted : (R : Record) (f : FactorAreas) → Roomy R f → R .supernodes ≤ R .n → Fitted R (shapeIn R f)
+unfolding shapeIn
+fitted R f r h = record {
+  columns = refl;
+  firsts = length-take-le (suc (R .supernodes)) (f .firsts) (omega (arith, r .firsts));
+  starts = length-take-le (suc (R .supernodes)) (f .starts) (omega (arith, r .starts));
+  rows = length-take-le (R .rows) (f .rows) (r .rows);
+}
 
 pub record Viewed (R : Record) (f : FactorAreas) : Type 0 where
   pub roomy : Roomy R f
@@ -191,7 +180,7 @@ pub record Viewed (R : Record) (f : FactorAreas) : Type 0 where
   pub entries : R .entries ≡ offset (shapeIn R f) (R .supernodes)
 
 pub viewed : (R : Record) (f : FactorAreas) → T (viewable R f) → Viewed R f
-unfolding viewable S
+unfolding viewable
 viewed R f h =
     let S = shapeIn R f in
     let a = and-both (fullRecord R f) _ h in

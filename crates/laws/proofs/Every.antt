@@ -26,6 +26,11 @@ unfolding every
 every-not f zero i l e = absurd (omega arith)
 every-not f (suc m) i l e = ⊎-elim (λ p. and-false (every f m) (f m) (rw (← p) e)) (λ p. rw (every-not f m i p e)) (eq-or-lt-of-le (le-of-suc-le-suc l))
 
+pub every-all : (f : ℕ → Bool) (m : ℕ) → ((i : ℕ) → i < m → f i ≡ true) → every f m ≡ true
+unfolding every
+every-all f zero h = refl
+every-all f (suc m) h = rw (every-all f m (λ i l. h i (omega arith)), h m (omega arith))
+
 pub every-ext : (f g : ℕ → Bool) (m : ℕ) → ((i : ℕ) → i < m → f i ≡ g i) → every f m ≡ every g m
 unfolding every
 every-ext f g zero h = refl

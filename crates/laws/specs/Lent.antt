@@ -6,6 +6,7 @@ use lib.ListN.{length, getD}
 use lib.Ieee.{Float}
 use Rattle.statement.specs.Shape.{Shape, supernodes, first, width, height, rowsOf}
 use Rattle.statement.specs.Solve.{FactorAreas}
+use Rattle.statement.specs.declared.Record.{Record}
 
 -- the areas, whole
 abbrev pub lent : List ℕ → List ℕ → List ℕ → List ℕ → List Float → FactorAreas
@@ -14,6 +15,13 @@ lent permutation firsts starts rows values = record { permutation = permutation;
 -- a structure that is held in three lists
 abbrev pub laid : ℕ → List ℕ → List ℕ → List ℕ → Shape
 laid n firsts starts rows = record { n = n; firsts = firsts; starts = starts; rows = rows; parents = [] }
+
+-- lists as long as the record says
+pub record Fitted (R : Record) (S : Shape) : Type 0 where
+  pub columns : S .n ≡ R .n
+  pub firsts : length (S .firsts) ≡ suc (R .supernodes)
+  pub starts : length (S .starts) ≡ suc (R .supernodes)
+  pub rows : length (S .rows) ≡ R .rows
 
 -- (c), and the row starts of (d)
 pub record Framed (S : Shape) : Type 0 where
