@@ -23,6 +23,7 @@ use Rattle.statement.specs.declared.Answer.{Answer}
 use Rattle.statement.specs.declared.Answer.the-variants.{NoFactor}
 use Rattle.statement.specs.declared.Order.{Order}
 use Rattle.statement.specs.declared.Record.{Record}
+use Rattle.statement.specs.declared.Stop.the-variants.{After}
 use Rattle.statement.specs.declared.Room.{Room}
 use Rattle.statement.specs.declared.Stage.the-variants.{Analysed, Partial, Full}
 use Rattle.laws.proofs.Bools.{and-both, and-intro, eqb-of, T-true, T-false, T-dec}
@@ -57,7 +58,7 @@ module _ (f : FactorAreas) (b : List Float) (words floats : ℕ) where
   analysed-refused M cap r = settled-refused _ _ _ _ refl
 
   pub partial-refused : (M : Matrix) (cap : ℕ) (o : Order) (l : List ℕ) (t : ℕ) (r : Room) → t < supernodes (analysis M .shape)
-      → solve (factor M cap o l t r .returned .«record») f b words floats ≡ noFactor b words floats
+      → solve (factor M cap o l (After t) r .returned .«record») f b words floats ≡ noFactor b words floats
   unfolding factor recordOf
   partial-refused M cap o l t r h = settled-refused _ _ _ _ (rw (lt-ltb t (supernodes (analysis M .shape)) h))
 
