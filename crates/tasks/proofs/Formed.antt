@@ -1,12 +1,12 @@
 -- The structure of an upper pattern meets what the split asks. Assumes nothing.
-use mathlib.Core.Path.{_≡_, refl, ap, _∙_}
+use mathlib.Core.Path.{_≡_, refl, ap}
 use mathlib.Core.Bool.{Bool}
 use mathlib.Core.List.{List, _++_}
 use Prim.Native.Nat.{ℕ, suc, _+_, _≤_, _<_}
 use native.Mathlib.Omega.{arith}
 use native.Mathlib.Nat.{le-refl}
 use lib.Dec.{T}
-use lib.ListN.{length, getD, length-append, List·getD-append}
+use lib.ListN.{length, getD}
 use Rattle.statement.specs.Lists.{joined}
 use Rattle.statement.specs.Fill.{fill}
 use Rattle.statement.specs.Shape.{Shape, supernodes, first, height, parentOf}
@@ -17,14 +17,12 @@ use Rattle.laws.proofs.Bounds.{count-most}
 use Rattle.laws.proofs.Shapes as shapes
 use Rattle.areas.specs.Buckets.{Holds}
 use Rattle.areas.proofs.Buckets.{start-suc}
+use Rattle.areas.proofs.Parts.{holds-part}
+use Rattle.statement.specs.Input.{Matrix, WellFormed, pattern}
+use Rattle.laws.specs.Numbered.{factored, shape}
+use Rattle.laws.proofs.Input.{upper}
+use Rattle.laws.proofs.FactorTree.{upper′}
 use Rattle.tasks.specs.Given.{Above, Sized, Given}
-
--- an area that begins with a list of m
-pub holds-part : (x : List ℕ) (m : ℕ) (l d : List ℕ) → length x ≡ m → l ≡ x ++ d → Holds (λ j. getD x j 0) m l
-holds-part x m l d h e = record {
-  fits = rw (e, length-append) (omega arith);
-  at = λ j k. ap (λ z. getD z j 0) e ∙ List·getD-append x d 0 j (omega arith);
-}
 
 module _ (p : ℕ → ℕ → Bool) (n : ℕ) (upper : (i k : ℕ) → T (p i k) → i ≤ k) where
   abbrev S : Shape
@@ -96,3 +94,18 @@ module _ (p : ℕ → ℕ → Bool) (n : ℕ) (upper : (i k : ℕ) → T (p i k)
         widths = λ K l. omega (arith, f-at K (omega arith), f-at (suc K) l);
         heights = λ K l. omega (arith, r-at K (omega arith), r-at (suc K) l, next-start K l);
       }
+
+-- of a well-formed matrix, with r for the number of supernodes
+module _ (M : Matrix) (wf : WellFormed M) where
+  u : (a b : ℕ) → T (factored (pattern M) (M .n) a b) → a ≤ b
+  u = upper′ (pattern M) (M .n) (upper (M .n) (M .starts) (M .rows) (wf .columns))
+
+  pub asked : (r : ℕ) → r ≡ supernodes (shape (pattern M) (M .n)) → (firsts a starts b parents c : List ℕ)
+      → firsts ≡ shape (pattern M) (M .n) .firsts ++ a → starts ≡ shape (pattern M) (M .n) .starts ++ b → parents ≡ shape (pattern M) (M .n) .parents ++ c
+      → (Sized r firsts starts × Above r parents) × Given (shape (pattern M) (M .n)) r firsts starts parents
+  asked r e firsts a starts b parents c e1 e2 e3 =
+      let p = factored (pattern M) (M .n) in
+      let f = firsts-hold p (M .n) u firsts a e1 in
+      let g = starts-hold p (M .n) u starts b e2 in
+      let h = parents-hold p (M .n) u parents c e3 in
+      rw e ((sized p (M .n) u firsts starts parents f g (wf .small), above p (M .n) u firsts starts parents f g h), given p (M .n) u firsts starts parents f g h)

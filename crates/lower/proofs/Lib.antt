@@ -1,0 +1,4 @@
+pub mod Spots
+pub mod Passes
+pub mod Total
+pub mod Bridge
