@@ -7,8 +7,9 @@ use Prim.Native.Nat.{ℕ, suc, _+_, _-_, _≤_, _<_}
 use native.Mathlib.Omega.{arith}
 use native.Mathlib.Numerals.{add-one}
 use lib.Dec.{T}
-use lib.ListN.{length, getD, take, drop, length-append, length-drop}
-use lib.Seq.{slice, length-slice, getD-drop, getD-take, ext-getD, drop-drop}
+use lib.ListN.{length, getD, take, drop}
+use lib.Seq.{slice, length-slice, getD-drop, getD-take, ext-getD, drop-at, length-take-le}
+use borrow.Rule.Slice.PartMut.{putMid}
 use lib.Ieee.{Float, nan}
 use Rattle.statement.specs.Lists.{has, place, sum, list}
 use Rattle.statement.specs.Input.{WellFormed, Columns, matrix, stored, value, +0}
@@ -21,7 +22,7 @@ use Rattle.laws.specs.Numbered.{factored, shape}
 use Rattle.laws.specs.Lower.{among, lowerValue, Lower, Pattern}
 use Rattle.laws.proofs.Bools.{T-true, T-false, T-dec, ltb-yes}
 use Rattle.laws.proofs.Fill.{→fill}
-use Rattle.laws.proofs.Ranks.{list-length, select-at, select-sorted, has-select}
+use Rattle.laws.proofs.Ranks.{select-at, select-sorted, has-select}
 use Rattle.laws.proofs.Select.{select-length}
 use Rattle.laws.proofs.SameRows.{super-rows}
 use Rattle.laws.proofs.Entry.{place-lt, getD-place, getD-map}
@@ -31,14 +32,13 @@ use Rattle.laws.proofs.Postorder.{pos, length-postorder}
 use Rattle.laws.proofs.FactorTree.{numbering, upper′}
 use Rattle.laws.proofs.Shapes as shapes
 use Rattle.laws.proofs.Sum.{sum-ext}
-use Rattle.areas.specs.Buckets.{Holds, Beyond}
+use Rattle.areas.specs.Buckets.{Holds}
 use Rattle.areas.proofs.Buckets.{start-suc, start-rise, holds-of, holds-ext}
-use Rattle.areas.proofs.Lists.{front-drop}
-use Rattle.areas.proofs.Parts.{holds-part}
+use Rattle.areas.proofs.Parts.{holds-part, holds-copied}
+use Rattle.areas.proofs.Tail.{tail-back}
 use Rattle.lower.specs.Entries.{originally, inLower, lowerRows, lowerValues, lowerStart, Sited, Put, Lowered}
 use Rattle.lower.proofs.Spots.{value-out}
 use Rattle.lower.proofs.Passes.{start-sum, starts-same}
-use Rattle.lower.proofs.Total.{total}
 
 -- what numbering leaves is what the lower matrix asks
 pub sited : (n : ℕ) (starts rows : List ℕ) (values : List Float) → WellFormed (matrix n starts rows values) → (perm d places e : List ℕ)
@@ -182,26 +182,20 @@ module _ (n : ℕ) (starts rows : List ℕ) (values : List Float) (wf : Columns 
 
   -- ---- all of it
 
-  beyond-more : {A : Type 0} {l₀ l : List A} → Beyond (lowerStart n starts rows n) l₀ l → Beyond (length rows) l₀ l
-  beyond-more {A} {l₀} {l} b = record { len = b .len; rest = split l ∙ ap (drop (length rows - lowerStart n starts rows n)) (b .rest) ∙ sym (split l₀) }
-    where
-      split : (l : List A) → drop (length rows) l ≡ drop (length rows - lowerStart n starts rows n) (drop (lowerStart n starts rows n) l)
-      split l = sym (drop-drop (length rows - lowerStart n starts rows n) (lowerStart n starts rows n) l ∙ ap (λ z. drop z l) (let z : lowerStart n starts rows n + (length rows - lowerStart n starts rows n) ≡ length rows = omega (arith, total n starts rows wf) in z))
+  pub lowered : Lowered n starts rows values to-starts to-rows to-values
+  lowered = record { columns = columns; pattern = pattern; entries = entries }
 
-  pub lowered : {to-starts₀ to-rows₀ : List ℕ} {to-values₀ : List Float} → Beyond (suc n) to-starts₀ to-starts → Beyond (lowerStart n starts rows n) to-rows₀ to-rows → Beyond (lowerStart n starts rows n) to-values₀ to-values
-      → Lowered n starts rows values to-starts₀ to-rows₀ to-values₀ to-starts to-rows to-values
-  lowered a b c = record {
-    columns = columns;
-    pattern = pattern;
-    entries = entries;
-    past-starts = a;
-    past-rows = beyond-more b;
-    past-values = beyond-more c;
-  }
+-- starts and rows in one list: the rows are written behind the starts, and come back so
+module _ (n : ℕ) (starts rows : List ℕ) (values : List Float) (wf : Columns n starts rows) (beside : length values ≡ length rows) (words next ys : List ℕ) (to-values : List Float)
+    (st : Holds (lowerStart n starts rows) (suc n) words) (w : Put n starts rows values n next ys to-values) where
+  abbrev back : List ℕ
+  back = putMid (n + 1) (length words - (n + 1)) words ys
 
--- the starts are written from the front
-pub past-sums : (f : ℕ → ℕ) (n : ℕ) (l d : List ℕ) → suc n ≤ length d → l ≡ list f (suc n) ++ drop (suc n) d → Beyond (suc n) d l
-past-sums f n l d h e = record {
-  len = rw (e, length-append, length-drop) (omega (arith, list-length f (suc n)));
-  rest = ap (drop (suc n)) e ∙ front-drop (list f (suc n)) d (suc n) (list-length f (suc n));
-}
+  back-is : back ≡ take (suc n) words ++ ys
+  back-is = tail-back (n + 1) words ys ∙ ap (λ m. take m words ++ ys) (add-one n)
+
+  rows-are : drop (n + 1) back ≡ ys
+  rows-are = rw (back-is, add-one n) (drop-at (take (suc n) words) ys (suc n) (length-take-le (suc n) words (st .fits)))
+
+  pub lowered-back : Lowered n starts rows values back (drop (n + 1) back) to-values
+  lowered-back = rw rows-are (lowered n starts rows values wf beside back next ys to-values (holds-copied ys st back-is) w)

@@ -9,8 +9,8 @@ use native.Mathlib.Nat.{le-refl, eq-or-lt-of-le, add-zero}
 use native.Mathlib.Numerals.{add-one}
 use lib.Dec.{T, not-T, ltb, ltb→lt, lt→ltb}
 use lib.Ieee.{Float, nan}
-use lib.ListN.{length, getD, set, take, drop, replicate, length-set, length-map, length-append, length-replicate, List·getD-append}
-use lib.Seq.{getD-set-same, getD-set-other, getD-take, length-take-le}
+use lib.ListN.{length, getD, set, drop, replicate, length-set, length-map, length-append, length-replicate, List·getD-append}
+use lib.Seq.{getD-set-same, getD-set-other}
 use Rattle.statement.specs.Lists.{bit, tally, sum, joined}
 use Rattle.statement.specs.Input.{matrix, stored, value}
 use Rattle.statement.specs.Fill.{parent}
@@ -311,22 +311,12 @@ module _ (n : ℕ) (starts rows : List ℕ) where
   counts-small w j h = omega (arith, w .at j h, select-length (inLower n starts rows j) n, count-to (inLower n starts rows j) n)
 
   module _ (values : List Float) where
-    pub put-begin : (begin d next l : List ℕ) (v : List Float) → Holds (lowerStart n starts rows) n begin → n ≤ length d → lowerStart n starts rows n ≤ length l → lowerStart n starts rows n ≤ length v
-        → next ≡ take n begin ++ drop n d → Put n starts rows values 0 next l v
+    pub put-begin : (next l : List ℕ) (v : List Float) → Holds (lowerStart n starts rows) n next → lowerStart n starts rows n ≤ length l → lowerStart n starts rows n ≤ length v → Put n starts rows values 0 next l v
     unfolding tally
-    put-begin begin d next l v g h f f′ e = record {
-      in-rows = buckets-start 0 (lowerRows n starts rows) n next l room f at;
-      in-values = buckets-start nan (lowerValues n starts rows values) n next v room (omega (arith, starts-same n starts rows values n)) (λ j k. at j k ∙ sym (starts-same n starts rows values j));
+    put-begin next l v g f f′ = record {
+      in-rows = buckets-start 0 (lowerRows n starts rows) n next l (g .fits) f (g .at);
+      in-values = buckets-start nan (lowerValues n starts rows values) n next v (g .fits) (omega (arith, starts-same n starts rows values n)) (λ j k. g .at j k ∙ sym (starts-same n starts rows values j));
     }
-      where
-        long : length (take n begin) ≡ n
-        long = length-take-le n begin (g .fits)
-
-        room : n ≤ length next
-        room = rw (e, length-append) (omega (arith, long))
-
-        at : (j : ℕ) → j < n → getD next j 0 ≡ lowerStart n starts rows j
-        at j k = ap (λ x. getD x j 0) e ∙ List·getD-append (take n begin) (drop n d) 0 j (omega (arith, long)) ∙ getD-take n begin j 0 k ∙ g .at j k
 
     pub put-next : {r : ℕ} {next l : List ℕ} {v : List Float} → Put n starts rows values (suc r) next l v → Put n starts rows values (r + 1) next l v
     put-next {r} w = rw (add-one r) w

@@ -2,7 +2,7 @@
 use mathlib.Core.Path.{_≡_}
 use mathlib.Core.Bool.{Bool, _&&_}
 use mathlib.Core.List.{List, map}
-use Prim.Native.Nat.{ℕ, suc, _+_, _≤_, _<_}
+use Prim.Native.Nat.{ℕ, _+_, _≤_, _<_}
 use lib.Dec.{ltb}
 use lib.ListN.{length, getD}
 use lib.Ieee.{Float, nan}
@@ -15,7 +15,7 @@ use Rattle.statement.specs.Calls.{entryA}
 use Rattle.laws.specs.Numbered.{factored, shape}
 use Rattle.laws.specs.Lower.{lowerValue, Lower, Pattern}
 use Rattle.laws.proofs.Postorder.{pos}
-use Rattle.areas.specs.Buckets.{start, Holds, Buckets, Beyond}
+use Rattle.areas.specs.Buckets.{start, Holds, Buckets}
 
 -- the column at each place
 abbrev pub originally : ℕ → List ℕ → List ℕ → ℕ → ℕ
@@ -60,16 +60,12 @@ pub record Put (n : ℕ) (starts rows : List ℕ) (values : List Float) (r : ℕ
   pub in-rows : Buckets 0 (lowerRows n starts rows) n (λ c. tally (inLower n starts rows c) r) next to-rows
   pub in-values : Buckets nan (lowerValues n starts rows values) n (λ c. tally (inLower n starts rows c) r) next to-values
 
--- ---- what is left in the three lists (before: ₀)
+-- ---- what is left in the lists
 
-pub record Lowered (n : ℕ) (starts rows : List ℕ) (values : List Float) (to-starts₀ to-rows₀ : List ℕ) (to-values₀ : List Float) (to-starts to-rows : List ℕ) (to-values : List Float) : Type 0 where
+pub record Lowered (n : ℕ) (starts rows : List ℕ) (values : List Float) (to-starts to-rows : List ℕ) (to-values : List Float) : Type 0 where
   -- n lower columns
   pub columns : Lower to-starts to-rows to-values n
   -- which the step can read
   pub pattern : (J : ℕ) → J < supernodes (shape (stored starts rows) n) → Pattern (shape (stored starts rows) n) J to-starts to-rows
   -- and which are the matrix
   pub entries : (i j : ℕ) → j ≤ i → i < n → lowerValue to-starts to-rows to-values i j ≡ entryA (matrix n starts rows values) (permutation (stored starts rows) n) i j
-  -- nothing else is written
-  pub past-starts : Beyond (suc n) to-starts₀ to-starts
-  pub past-rows : Beyond (length rows) to-rows₀ to-rows
-  pub past-values : Beyond (length rows) to-values₀ to-values

@@ -1,7 +1,7 @@
 // The matrix by lower columns in factor numbering: factor columns are taken rising, so each lower column's rows rise.
 ghost use mathlib.Core.Path.{_≡_};
 ghost use Prim.Native.Nat.{ℕ, suc, _+_, _≤_, _<_};
-ghost use lib.ListN.{length, getD, set};
+ghost use lib.ListN.{length, getD, set, drop};
 ghost use Rattle.areas.specs.Buckets.{Holds, Beyond};
 ghost use Rattle.lower.specs.Entries.{Sited, Counted, Put, Lowered, lowerRows, lowerStart};
 use areas::copy_part;
@@ -103,7 +103,7 @@ fn put_line(
     }
 }
 
-// All entries, from the starts on.
+// All entries, from the starts in next on.
 fn put_lines(
     n: usize,
     starts: &[usize],
@@ -111,19 +111,15 @@ fn put_lines(
     values: &[f64],
     permutation: &[usize],
     places: &[usize],
-    begin: &[usize],
     next: &mut [usize],
     to_rows: &mut [usize],
     to_values: &mut [f64],
 )
     requires { ⌜ (length (now values) ≡ length (now rows)) × Sited n (now starts) (now rows) (now permutation) (now places) ⌝ }
-    requires { ⌜ (n ≤ length (now next)) × Holds (lowerStart n (now starts) (now rows)) n (now begin) ⌝ }
+    requires { ⌜ Holds (lowerStart n (now starts) (now rows)) n (now next) ⌝ }
     requires { ⌜ (length (now rows) ≤ length (now «to_rows»)) × (length (now rows) ≤ length (now «to_values»)) ⌝ }
     ensures { λ _. ⌜ Put n (now (starts .entry)) (now (rows .entry)) (now (values .entry)) n (now (next .exit)) (now («to_rows» .exit)) (now («to_values» .exit)) ⌝ }
-    ensures { λ _. ⌜ Beyond (lowerStart n (now (starts .entry)) (now (rows .entry)) n) (now («to_rows» .entry)) (now («to_rows» .exit)) ⌝ }
-    ensures { λ _. ⌜ Beyond (lowerStart n (now (starts .entry)) (now (rows .entry)) n) (now («to_values» .entry)) (now («to_values» .exit)) ⌝ }
 {
-    copy_part(n, begin, next);
     let mut r = 0;
     while r < n {
         put_line(
@@ -142,7 +138,27 @@ fn put_lines(
     }
 }
 
-// The lower columns' starts, rows and values, from the upper columns, the postorder and its places. next is scratch.
+// The starts of the lower columns, in words, and again in next.
+fn begin_lines(
+    n: usize,
+    starts: &[usize],
+    rows: &[usize],
+    permutation: &[usize],
+    places: &[usize],
+    next: &mut [usize],
+    words: &mut [usize],
+)
+    requires { ⌜ Sited n (now starts) (now rows) (now permutation) (now places) ⌝ }
+    requires { ⌜ (n ≤ length (now next)) × (n < length (now words)) ⌝ }
+    ensures { λ _. ⌜ Holds (lowerStart n (now (starts .entry)) (now (rows .entry))) (suc n) (now (words .exit)) ⌝ }
+    ensures { λ _. ⌜ Holds (lowerStart n (now (starts .entry)) (now (rows .entry))) n (now (next .exit)) ⌝ }
+{
+    count_lines(n, starts, rows, permutation, places, next);
+    sums(n, next, words);
+    copy_part(n, words, next);
+}
+
+// The lower columns from the upper columns, the postorder and its places: in words the n + 1 starts and then the rows. next is scratch.
 pub fn lower(
     n: usize,
     input_starts: &[usize],
@@ -151,16 +167,23 @@ pub fn lower(
     permutation: &[usize],
     places: &[usize],
     next: &mut [usize],
-    to_starts: &mut [usize],
-    to_rows: &mut [usize],
+    words: &mut [usize],
     to_values: &mut [f64],
 )
     requires { ⌜ (length (now «input_values») ≡ length (now «input_rows»)) × Sited n (now «input_starts») (now «input_rows») (now permutation) (now places) ⌝ }
-    requires { ⌜ (n ≤ length (now next)) × (n < length (now «to_starts»)) × (length (now «input_rows») ≤ length (now «to_rows»)) × (length (now «input_rows») ≤ length (now «to_values»)) ⌝ }
-    ensures { λ _. ⌜ Lowered n (now («input_starts» .entry)) (now («input_rows» .entry)) (now («input_values» .entry)) (now («to_starts» .entry)) (now («to_rows» .entry)) (now («to_values» .entry)) (now («to_starts» .exit)) (now («to_rows» .exit)) (now («to_values» .exit)) ⌝ }
+    requires { ⌜ (n ≤ length (now next)) × (n + 1 + length (now «input_rows») ≤ length (now words)) × (length (now «input_rows») ≤ length (now «to_values»)) ⌝ }
+    ensures { λ _. ⌜ Lowered n (now («input_starts» .entry)) (now («input_rows» .entry)) (now («input_values» .entry)) (now (words .exit)) (drop (n + 1) (now (words .exit))) (now («to_values» .exit)) ⌝ }
 {
-    count_lines(n, input_starts, input_rows, permutation, places, next);
-    sums(n, next, to_starts);
+    begin_lines(
+        n,
+        input_starts,
+        input_rows,
+        permutation,
+        places,
+        next,
+        words,
+    );
+    let m = n + 1;
     put_lines(
         n,
         input_starts,
@@ -168,9 +191,8 @@ pub fn lower(
         input_values,
         permutation,
         places,
-        to_starts,
         next,
-        to_rows,
+        &mut words[m..],
         to_values,
     );
 }

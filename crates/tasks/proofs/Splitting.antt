@@ -92,12 +92,6 @@ above-part {ns} {parents} {zs} d a e = record {
     same : (K : ℕ) → K < ns → getD zs K 0 ≡ getD parents K 0
     same K h = ap (λ l. getD l K 0) e ∙ List·getD-append (take ns parents) d 0 K (simp length-take (omega (arith, a .len))) ∙ getD-take ns parents K 0 h
 
-pub holds-copied : {f : ℕ → ℕ} {ns : ℕ} {parents zs : List ℕ} (d : List ℕ) → Holds f ns parents → zs ≡ take ns parents ++ d → Holds f ns zs
-holds-copied {f} {ns} {parents} {zs} d a e = record {
-  fits = omega (arith, ap length e, length-append (take ns parents) d, length-take ns parents, a .fits);
-  at = λ j h. ap (λ l. getD l j 0) e ∙ List·getD-append (take ns parents) d 0 j (simp length-take (omega (arith, a .fits))) ∙ getD-take ns parents j 0 h ∙ a .at j h;
-}
-
 -- the tables are what the split reads
 module _ (ns : ℕ) (words : List ℕ) (most : ℕ) (e : most ≡ max (getD words ns 0 / 256) (2 ^ 21)) where
   module _ (S : Shape) (number : supernodes S ≡ ns) (g : Spread S ns words) where

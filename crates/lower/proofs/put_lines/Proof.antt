@@ -1,9 +1,7 @@
--- `lower::put_lines` meets its contract: row by row. Assumes nothing.
-use Rattle.lower.proofs.Total.{total}
+-- `lower::put_lines` meets its contract. Assumes nothing.
 use Rattle.lower.proofs.Passes.{put-begin, put-next, put-over}
-use Rattle.lower.specs.Entries.{Put, lowerStart}
-use Rattle.areas.proofs.Buckets.{beyond-same, beyond-by}
-use Rattle.areas.specs.Buckets.{Beyond}
+use Rattle.lower.proofs.Total.{total}
+use Rattle.lower.specs.Entries.{Put}
 use lib.ListN.{length}
 use mathlib.Core.Path.{_≡_, refl}
 use Prim.Native.Nat.{_-_, _≤_}
@@ -12,33 +10,27 @@ use Rattle.lower.proofs.put_lines.Statement.{statement}
 use Rattle.lower.proofs.put_lines.Tie as tie
 
 abbrev Inv-loop : tie.InvT-loop
-Inv-loop n starts rows values permutation places begin next₀ to-rows₀ to-values₀ r₀ next to-rows to-values r = (Put n starts rows values r next to-rows to-values) × (Beyond (lowerStart n starts rows n) to-rows₀ to-rows) × (Beyond (lowerStart n starts rows n) to-values₀ to-values) × (r ≤ n) × (length next ≡ length next₀)
+Inv-loop n starts rows values permutation places next₀ to-rows₀ to-values₀ r₀ next to-rows to-values r = (Put n starts rows values r next to-rows to-values) × (r ≤ n) × (length next ≡ length next₀) × (length to-rows ≡ length to-rows₀) × (length to-values ≡ length to-values₀)
 
 abbrev μ-loop : tie.MeasureT-loop
-μ-loop n starts rows values permutation places begin next₀ to-rows₀ to-values₀ r₀ next to-rows to-values r = n - r
-
-copy-part-requires : tie.Need-copy-part-requires Inv-loop μ-loop
-copy-part-requires c κs =
-    let pre′ = c .before .before .before .before .before .before .before .before .before .before .pre in
-    (pre′ .1 .0 .1 .fits, pre′ .1 .0 .0)
+μ-loop n starts rows values permutation places next₀ to-rows₀ to-values₀ r₀ next to-rows to-values r = n - r
 
 loop-holds : tie.Need-loop-holds Inv-loop μ-loop
 loop-holds c =
-    let pre′ = c .before .before .before .before .before .before .before .before .before .before .before .before .before .pre in
-    let copy-part′ = c .before .before .copy-part in
-    let t = total _ _ _ (pre′ .0 .1 .formed) in (put-begin _ _ _ _ _ _ _ _ _ (pre′ .1 .0 .1) (pre′ .1 .0 .0) (omega (arith, t, pre′ .1 .1)) (omega (arith, t, pre′ .1 .1)) (copy-part′ .ensures), beyond-same _ _, beyond-same _ _, omega arith, refl)
+    let pre′ = c .before .before .before .before .before .before .before .before .pre in
+    let t = total _ _ _ (pre′ .0 .1 .formed) in (put-begin _ _ _ _ _ _ _ (pre′ .1 .0) (omega (arith, t, pre′ .1 .1)) (omega (arith, t, pre′ .1 .1)), omega arith, refl, refl, refl)
 
 put-line-requires : tie.Need-put-line-requires Inv-loop μ-loop
 put-line-requires c κs =
     let loop-test′ = c .before .before .before .loop-test in
-    let pre′ = c .before .before .before .before .before .before .before .before .before .before .before .before .before .before .before .before .before .before .pre in
+    let pre′ = c .before .before .before .before .before .before .before .before .before .before .before .before .before .pre in
     let loop′ = c .before .before .before .before .loop in
     ((loop-test′ .taken, pre′ .0 .0, pre′ .0 .1), loop′ .inv .0)
 
 add-r : tie.Need-add-r Inv-loop μ-loop
 add-r c =
-    let good′ = c .before .before .before .before .before .before .before .before .before .before .before .before .before .before .before .before .before .before .before .before .before .before .before .before .before .good in
-    let pre′ = c .before .before .before .before .before .before .before .before .before .before .before .before .before .before .before .before .before .before .before .before .before .before .before .before .before .pre in
+    let good′ = c .before .before .before .before .before .before .before .before .before .before .before .before .before .before .before .before .before .before .before .before .good in
+    let pre′ = c .before .before .before .before .before .before .before .before .before .before .before .before .before .before .before .before .before .before .before .before .pre in
     let loop-test′ = c .before .before .before .before .before .before .before .before .before .before .loop-test in
     omega (arith, good′, pre′ .0 .1 .small, loop-test′ .taken)
 
@@ -50,30 +42,43 @@ loop-less c =
 loop-again : tie.Need-loop-again Inv-loop μ-loop
 loop-again c =
     let put-line′ = c .before .before .before .before .before .before .put-line in
-    let loop′ = c .before .before .before .before .before .before .before .before .before .before .before .loop in
     let loop-test′ = c .before .before .before .before .before .before .before .before .before .before .loop-test in
-    (put-next _ _ _ _ (put-line′ .ensures .0), beyond-by _ (loop′ .inv .1) (put-line′ .ensures .1 .0), beyond-by _ (loop′ .inv .2) (put-line′ .ensures .1 .1), omega (arith, loop-test′ .taken), omega (arith, loop′ .inv .4))
+    let loop′ = c .before .before .before .before .before .before .before .before .before .before .before .loop in
+    (put-next _ _ _ _ (put-line′ .ensures .0), omega (arith, loop-test′ .taken), omega (arith, loop′ .inv), omega (arith, loop′ .inv, put-line′ .ensures .1 .0 .len), omega (arith, loop′ .inv, put-line′ .ensures .1 .1 .len))
 
 same-length : tie.Need-same-length Inv-loop μ-loop
 same-length c =
     let loop′ = c .before .loop in
-    omega (arith, loop′ .inv .4)
+    omega (arith, loop′ .inv)
 
 same-length-2 : tie.Need-same-length-2 Inv-loop μ-loop
 same-length-2 c =
     let loop′ = c .before .loop in
-    omega (arith, loop′ .inv .1 .len)
+    omega (arith, loop′ .inv)
 
 same-length-3 : tie.Need-same-length-3 Inv-loop μ-loop
 same-length-3 c =
     let loop′ = c .before .loop in
-    omega (arith, loop′ .inv .2 .len)
+    omega (arith, loop′ .inv)
 
 returns : tie.Need-returns Inv-loop μ-loop
 returns c =
     let loop′ = c .before .loop in
     let loop-test′ = c .loop-test in
-    (put-over _ _ _ _ (loop′ .inv .0) (loop′ .inv .3) (loop-test′ .left), (loop′ .inv .1, loop′ .inv .2))
+    put-over _ _ _ _ (loop′ .inv .0) (loop′ .inv .1) (loop-test′ .left)
 
 pub put-lines-spec : {M : Type 1} → statement M
-put-lines-spec = tie.close (tie.spec Inv-loop μ-loop copy-part-requires loop-holds put-line-requires add-r loop-less loop-again same-length same-length-2 same-length-3 returns)
+put-lines-spec =
+    tie.close
+    (tie.spec
+    Inv-loop
+    μ-loop
+    loop-holds
+    put-line-requires
+    add-r
+    loop-less
+    loop-again
+    same-length
+    same-length-2
+    same-length-3
+    returns)

@@ -1,3 +1,4 @@
+-- `tasks::begins` meets its contract: call by call. Assumes nothing.
 use Rattle.tasks.proofs.Splitting.{own-holds}
 use native.Mathlib.Omega.{arith}
 use borrow.Author.Needs.{needs}

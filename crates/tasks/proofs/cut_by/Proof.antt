@@ -1,3 +1,4 @@
+-- `tasks::cut_by` meets its contract: call by call. Assumes nothing.
 use Rattle.tasks.proofs.Splitting.{tabled, same, holds-take}
 use lib.ListN.{length-take, length-drop}
 use Prim.Native.Nat.{_+_, _*_}

@@ -1,3 +1,4 @@
+-- `tasks::loads` meets its contract: call by call. Assumes nothing.
 use Rattle.tasks.proofs.Splitting.{weighed}
 use Rattle.tasks.proofs.Weighing.{weights-little}
 use native.Mathlib.Omega.{arith}

@@ -1,3 +1,4 @@
+-- `tasks::split` meets its contract: call by call. Assumes nothing.
 use Rattle.tasks.proofs.Splitting.{parts-of}
 use Rattle.areas.proofs.Tail.{tail-lent}
 use native.Mathlib.Omega.{arith}

@@ -1,7 +1,8 @@
-use Rattle.tasks.proofs.Splitting.{spread-back, above-back, above-part, holds-copied}
+-- `tasks::table` meets its contract: call by call. Assumes nothing.
+use Rattle.tasks.proofs.Splitting.{spread-back, above-back, above-part}
 use lib.ListN.{length}
 use Prim.Native.Nat.{_+_, _-_, _*_, _≤_}
-use Rattle.tasks.proofs.Splitting.{above-part, holds-copied}
+use Rattle.areas.proofs.Parts.{holds-copied}
 use Rattle.areas.proofs.Tail.{tail-length}
 use mathlib.Core.Path.{_≡_}
 use native.Mathlib.Omega.{arith}
