@@ -1,0 +1,162 @@
+-- One column's work in place: single products, the sum before the panel, the two together, and the whole column. Assumes nothing.
+use mathlib.Core.Path.{_≡_, refl, sym, ap, ap₂, _∙_, subst}
+use mathlib.Core.Bool.{Bool, true, false, cond}
+use mathlib.Core.List.{List}
+use Prim.Native.Nat.{ℕ, suc, _+_, _-_, _≤_, _<_}
+use native.Mathlib.Omega.{arith}
+use native.Mathlib.Nat.{add-sub-of-le}
+use lib.ListN.{length, getD, set, length-set}
+use lib.Seq.{getD-set-same, getD-set-other}
+use Rattle.laws.proofs.Order.{never}
+use lib.Dec.{ltb}
+use borrow.Author.Tests.{lt-ltb, le-ltb}
+use lib.Ieee.{Float, nan, binary64, sub, mul, div}
+use Rattle.laws.proofs.Entry.{trap-suc, trap-mono, singly-same}
+use Rattle.areas.specs.Touch.{Touched}
+use Rattle.panels.specs.Dense.{cell, inner, pivot, Column}
+use Rattle.areas.proofs.Touch as touch
+use Rattle.panels.proofs.Floats.{singly-start, singly-step}
+use Rattle.statement.specs.Shape.{trapezoid}
+use Rattle.statement.specs.Root.{root}
+use Rattle.statement.specs.Rules.{dot, singly, panel, passes}
+
+-- single products
+module _ (old : List Float) (m c c0 dst : ℕ) where
+  abbrev pub Singled : List Float → ℕ → Type 0
+  Singled w k =
+      Touched nan old w (m - c) (λ i. dst + i) (λ i. singly (getD old (dst + i) nan) (cell m old (c + i)) (cell m old c) c0 (k - c0))
+
+  pub singled-none : Singled old c0
+  singled-none =
+      record {
+        size = refl;
+        inside = λ i h. singly-start (getD old (dst + i) nan) (cell m old (c + i)) (cell m old c) c0 ∙ ap (singly (getD old (dst + i) nan) (cell m old (c + i)) (cell m old c) c0) (none c0);
+        outside = λ p h. refl;
+      }
+    where
+      none : (k : ℕ) → 0 ≡ k - k
+      none k = omega arith
+
+  pub singled-more : (w w′ : List Float) (k src : ℕ) → dst ≡ trapezoid m c → Singled w k → c0 ≤ k → k < c → c < m → src ≡ trapezoid m k + (c - k) →
+      Touched nan w w′ (m - c) (λ i. dst + i) (λ i. sub binary64 (getD w (dst + i) nan) (mul binary64 (getD w (src + i) nan) (getD w src nan))) → Singled w′ (k + 1)
+  singled-more w w′ k src d t h₀ h₁ h₂ e u =
+      touch.again nan old w (m - c) (λ i. dst + i) (λ i. singly (getD old (dst + i) nan) (cell m old (c + i)) (cell m old c) c0 (k - c0)) _ w′ _ t u
+      (λ i p.
+      ap₂ (sub binary64) (t .inside i p) (ap₂ (mul binary64) (row i (src + i) p refl) (row₀ p)) ∙
+      singly-step (getD old (dst + i) nan) (cell m old (c + i)) (cell m old c) c0 (k - c0) ∙
+      ap (singly (getD old (dst + i) nan) (cell m old (c + i)) (cell m old c) c0) next)
+    where
+      next : k - c0 + 1 ≡ k + 1 - c0
+      next = omega arith
+
+      back : k ≡ c0 + (k - c0)
+      back = omega arith
+
+      apart : (i j x : ℕ) → i < m - c → x ≡ src + i → dst + j ≡ x → ⊥
+      apart i j x p f g = omega (arith, trap-suc m k, trap-mono m (suc k) c h₁)
+
+      there : (i x : ℕ) → x ≡ src + i → x ≡ trapezoid m k + (c + i - k)
+      there i x f = omega arith
+
+      row : (i x : ℕ) → i < m - c → x ≡ src + i → getD w x nan ≡ cell m old (c + i) (c0 + (k - c0))
+      row i x p f = t .outside x (λ j l g. apart i j x p f g) ∙ ap (λ x. getD old x nan) (there i x f) ∙ ap (cell m old (c + i)) back
+
+      row₀ : {i : ℕ} → i < m - c → getD w src nan ≡ cell m old c (c0 + (k - c0))
+      row₀ p = t .outside src (λ j l g. apart 0 j src (omega arith) (omega arith) g) ∙ ap (λ x. getD old x nan) e ∙ ap (cell m old c) back
+
+  pub singled-all : (w : List Float) (k : ℕ) → dst ≡ trapezoid m c → Singled w k → k ≤ c → c ≤ k →
+      Touched nan old w (m - c) (λ i. trapezoid m c + i) (λ i. singly (getD old (trapezoid m c + i) nan) (cell m old (c + i)) (cell m old c) c0 (c - c0))
+  singled-all w k d t h l =
+      subst (λ d. Touched nan old w (m - c) (λ i. d + i) (λ i. singly (getD old (d + i) nan) (cell m old (c + i)) (cell m old c) c0 (c - c0))) d
+      (subst (Singled w) same t)
+    where
+      same : k ≡ c
+      same = omega arith
+
+-- the sum before the panel
+module _ (old : List Float) (m c : ℕ) where
+  abbrev pub Before : List Float → Type 0
+  Before w =
+      Touched nan old w (m - c) (λ i. trapezoid m c + i)
+      (λ i. cond (ltb c 64) (getD old (trapezoid m c + i) nan) (sub binary64 (getD old (trapezoid m c + i) nan) (dot (cell m old (c + i)) (cell m old c) (panel c))))
+
+  pub before-none : c < 64 → Before old
+  before-none h = record { size = refl; inside = λ i p. rw (lt-ltb c 64 h); outside = λ p q. refl }
+
+  pub before-sum : (w work : List Float) (at : ℕ) → 64 ≤ c → at ≡ trapezoid m c → ((i : ℕ) → i < m - c → getD work i nan ≡ dot (cell m old (c + i)) (cell m old c) (panel c)) →
+      Touched nan old w (m - c) (λ i. at + i) (λ i. sub binary64 (getD old (at + i) nan) (getD work i nan)) → Before w
+  before-sum w work at h e s t =
+      touch.recast nan old w (m - c) (λ i. trapezoid m c + i) _ _
+      (subst (λ a. Touched nan old w (m - c) (λ i. a + i) (λ i. sub binary64 (getD old (a + i) nan) (getD work i nan))) e t)
+      (λ i p. ap (sub binary64 (getD old (trapezoid m c + i) nan)) (s i p) ∙ rw (le-ltb c 64 h))
+
+-- columns before c are read alike before and after a change of column c
+pub cells-kept : (old w : List Float) (m c : ℕ) (f : ℕ → Float) → Touched nan old w (m - c) (λ i. trapezoid m c + i) f → (p k : ℕ) → k < c → k ≤ p → p < m → cell m w p k ≡ cell m old p k
+cells-kept old w m c f t p k h₀ h₁ h₂ =
+    t .outside (trapezoid m k + (p - k)) (λ i l e. omega (arith, trap-suc m k, trap-mono m (suc k) c h₀))
+
+-- both
+module _ (old : List Float) (m c : ℕ) where
+  abbrev pub Reduced : List Float → Type 0
+  Reduced w = Touched nan old w (m - c) (λ i. trapezoid m c + i) (λ i. inner m old (c + i) c (getD old (trapezoid m c + i) nan))
+
+  pub reduced : (w w′ : List Float) → Before old m c w →
+      Touched nan w w′ (m - c) (λ i. trapezoid m c + i) (λ i. singly (getD w (trapezoid m c + i) nan) (cell m w (c + i)) (cell m w c) (panel c) (c - panel c)) → Reduced w′
+  unfolding inner
+  reduced w w′ t u =
+      touch.again nan old w (m - c) (λ i. trapezoid m c + i) _ _ w′ _ t u
+      (λ i p.
+      ap (λ z. singly z (cell m w (c + i)) (cell m w c) (panel c) (c - panel c)) (t .inside i p) ∙
+      singly-same _ (cell m w (c + i)) (cell m w c) (cell m old (c + i)) (cell m old c) (panel c) (c - panel c)
+      (λ k q. (cells-kept old w m c _ t (c + i) k (omega arith) (omega arith) (omega arith), cells-kept old w m c _ t c k (omega arith) (omega arith) (omega arith))))
+
+  pub reduced-at : (w : List Float) → Reduced w → (p : ℕ) → c ≤ p → p < m → cell m w p c ≡ inner m old p c (cell m old p c)
+  reduced-at w t p h l = t .inside (p - c) (omega arith) ∙ ap (λ z. inner m old z c (cell m old p c)) (add-sub-of-le h)
+
+  module _ (a : Float) (w : List Float) (at : ℕ) (b : Bool) (e : at ≡ trapezoid m c) (h : c < m)
+      (room : trapezoid m c + (m - c) ≤ length old) (t : Reduced w) (g : b ≡ passes a (getD w at nan)) where
+    same : at ≡ trapezoid m c + (c - c)
+    same = omega arith
+
+    d-is : getD w at nan ≡ pivot m old c
+    d-is = ap (λ x. getD w x nan) same ∙ reduced-at w t c (omega arith) h
+
+    good-is : (s : Bool) → b ≡ s → s ≡ passes a (pivot m old c)
+    good-is s f = sym f ∙ g ∙ ap (passes a) d-is
+
+    pub column-no : b ≡ false → Column m c a old w false
+    column-no f =
+        record {
+          size = t .size;
+          good = good-is false f;
+          diag = λ q. never q refl;
+          below = λ q. never q refl;
+          outside = λ x q. t .outside x (λ i l s. q (omega arith) (omega arith));
+        }
+
+    pub column-yes : (v : List Float) (r : Float) → b ≡ true → r ≡ root (getD w at nan) →
+        Touched nan (set w at r) v (m - c - 1) (λ i. at + 1 + i) (λ i. div binary64 (getD (set w at r) (at + 1 + i) nan) r) → Column m c a old v true
+    column-yes v r f k u =
+        record {
+          size = u .size ∙ length-set w at r ∙ t .size;
+          good = good-is true f;
+          diag = λ q.
+              ap (λ x. getD v x nan) (sym same) ∙
+              u .outside at (λ i l s. omega arith) ∙
+              getD-set-same w at r nan (omega (arith, t .size)) ∙
+              r-is;
+          below = λ q p l₁ l₂.
+              ap (λ x. getD v x nan) (row p l₁) ∙
+              u .inside (p - c - 1) (omega arith) ∙
+              ap₂ (div binary64) (ap (λ x. getD (set w at r) x nan) (sym (row p l₁)) ∙ getD-set-other w at (trapezoid m c + (p - c)) r nan (λ s. omega arith) ∙ reduced-at w t p (omega arith) l₂) r-is;
+          outside = λ x q.
+              u .outside x (λ i l s. q (omega arith) (omega arith)) ∙
+              getD-set-other w at x r nan (λ s. q (omega arith) (omega arith)) ∙
+              t .outside x (λ i l s. q (omega arith) (omega arith));
+        }
+      where
+        r-is : r ≡ root (pivot m old c)
+        r-is = k ∙ ap root d-is
+
+        row : (p : ℕ) → c < p → trapezoid m c + (p - c) ≡ at + 1 + (p - c - 1)
+        row p l = omega arith

@@ -1,0 +1,36 @@
+-- Small laws of floats and sums. Assumes nothing.
+use mathlib.Core.Path.{_≡_, refl, sym, ap}
+use Prim.Native.Nat.{ℕ, _+_}
+use native.Mathlib.Numerals.{add-one}
+use lib.Ieee.{Float, binary64, ofBits, add, sub, mul, div}
+use Rattle.statement.specs.Input.{+0}
+use Rattle.statement.specs.Rules.{dot, singly}
+
+pub zero-is : ofBits binary64 0 ≡ +0
+unfolding ofBits
+zero-is = refl
+
+pub dot-start : (x y : ℕ → Float) → +0 ≡ dot x y 0
+unfolding dot
+dot-start x y = refl
+
+pub dot-step : (x y : ℕ → Float) (k : ℕ) → add binary64 (dot x y k) (mul binary64 (x k) (y k)) ≡ dot x y (k + 1)
+unfolding dot
+dot-step x y k = ap (dot x y) (sym (add-one k))
+
+pub add-left : {x y : Float} (z : Float) → x ≡ y → add binary64 x z ≡ add binary64 y z
+add-left z e = ap (λ u. add binary64 u z) e
+
+pub sub-left : {x y : Float} (z : Float) → x ≡ y → sub binary64 x z ≡ sub binary64 y z
+sub-left z e = ap (λ u. sub binary64 u z) e
+
+pub div-left : {x y : Float} (z : Float) → x ≡ y → div binary64 x z ≡ div binary64 y z
+div-left z e = ap (λ u. div binary64 u z) e
+
+pub singly-start : (v : Float) (x y : ℕ → Float) (a : ℕ) → v ≡ singly v x y a 0
+unfolding singly
+singly-start v x y a = refl
+
+pub singly-step : (v : Float) (x y : ℕ → Float) (a w : ℕ) → sub binary64 (singly v x y a w) (mul binary64 (x (a + w)) (y (a + w))) ≡ singly v x y a (w + 1)
+unfolding singly
+singly-step v x y a w = ap (singly v x y a) (sym (add-one w))

@@ -1,0 +1,53 @@
+-- Sums and single products over a trapezoid's columns, one column more. Assumes nothing.
+use mathlib.Core.Path.{_≡_, refl, ap, ap₂, _∙_, subst}
+use mathlib.Core.List.{List}
+use Prim.Native.Nat.{ℕ, suc, _+_, _-_, _≤_, _<_}
+use native.Mathlib.Omega.{arith}
+use native.Mathlib.Numerals.{add-one}
+use lib.ListN.{getD}
+use lib.Ieee.{Float, nan, binary64, add, mul}
+use Rattle.laws.proofs.Entry.{trap-suc, trap-mono}
+use Rattle.areas.specs.Touch.{Touched}
+use Rattle.panels.specs.Dense.{cell}
+use Rattle.areas.proofs.Touch as touch
+use Rattle.panels.proofs.Floats.{dot-start, dot-step}
+use Rattle.statement.specs.Shape.{trapezoid}
+use Rattle.statement.specs.Input.{+0}
+use Rattle.statement.specs.Rules.{dot}
+
+-- where row q + i of column k lies
+pub at-row : (t q i k at : ℕ) → k ≤ q → at ≡ t + (q - k) → at + i ≡ t + (q + i - k)
+at-row t q i k at h e = omega arith
+
+module _ (old v : List Float) (m q n : ℕ) where
+  abbrev pub Summed : List Float → ℕ → Type 0
+  Summed w k = Touched nan old w n (λ i. i) (λ i. dot (cell m v (q + i)) (cell m v q) k)
+
+  pub summed-none : ((i : ℕ) → i < n → getD old i nan ≡ +0) → Summed old 0
+  summed-none e =
+      record { size = refl; inside = λ i h. e i h ∙ dot-start (cell m v (q + i)) (cell m v q); outside = λ p h. refl }
+
+  pub summed-more : (w w′ : List Float) (k at : ℕ) → Summed w k → k ≤ q → at ≡ trapezoid m k + (q - k) →
+      Touched nan w w′ n (λ i. i) (λ i. add binary64 (getD w i nan) (mul binary64 (getD v (at + i) nan) (getD v at nan))) → Summed w′ (k + 1)
+  summed-more w w′ k at t h e u =
+      touch.again nan old w n (λ i. i) (λ i. dot (cell m v (q + i)) (cell m v q) k) _ w′ _ t u
+      (λ i p.
+      ap₂ (add binary64) (t .inside i p) (ap₂ (mul binary64) (ap (λ x. getD v x nan) (at-row (trapezoid m k) q i k at h e)) (ap (λ x. getD v x nan) e)) ∙
+      dot-step (cell m v (q + i)) (cell m v q) k)
+
+  pub summed-at : (w : List Float) (k kw : ℕ) → Summed w k → k ≤ kw → kw ≤ k → Summed w kw
+  summed-at w k kw t h l = subst (Summed w) (same k kw h l) t
+    where
+      same : (i n : ℕ) → i ≤ n → n ≤ i → i ≡ n
+      same i n p q = omega arith
+
+pub trap-zero : (m : ℕ) → trapezoid m 0 ≡ 0
+unfolding trapezoid
+trap-zero m = refl
+
+-- a column's rows from q lie within the trapezoid
+pub at-in : (m k q kw at L : ℕ) → k < kw → kw ≤ q → q < m → at ≡ trapezoid m k + (q - k) → trapezoid m kw ≤ L → at + (m - q) ≤ L
+at-in m k q kw at L h h₁ h₂ e l = omega (arith, trap-suc m k, trap-mono m (suc k) kw h)
+
+pub at-next : (m k q at : ℕ) → k < q → q < m → at ≡ trapezoid m k + (q - k) → at + m - k - 1 ≡ trapezoid m (k + 1) + (q - (k + 1))
+at-next m k q at h h₁ e = omega (arith, trap-suc m k, ap (trapezoid m) (add-one k))

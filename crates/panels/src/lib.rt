@@ -1,0 +1,225 @@
+// The dense kernels: sums over the columns of a trapezoid, and its factor in place, column by column.
+ghost use mathlib.Core.Path.{_≡_};
+ghost use mathlib.Core.Bool.{cond};
+ghost use Prim.Native.Nat.{ℕ, _+_, _-_, _*_, _<_, _≤_};
+ghost use lib.Dec.{ltb};
+ghost use lib.ListN.{getD, length, take};
+ghost use lib.Ieee.{nan, binary64, add, sub, mul, div};
+ghost use Rattle.statement.specs.Input.{+0};
+ghost use Rattle.statement.specs.Shape.{trapezoid};
+ghost use Rattle.statement.specs.Rules.{dot, singly, passes, panel};
+ghost use Rattle.laws.specs.Lower.{among, lowerValue, Lower};
+ghost use Rattle.areas.specs.Touch.{Touched};
+ghost use Rattle.panels.specs.Dense.{cell, inner, Column, Dense};
+
+// The first n places are 0.0.
+pub fn clear(w: &mut [f64], n: usize)
+    requires { ⌜ n ≤ length (now w) ⌝ }
+    ensures { λ r. ⌜ Touched nan (now (w .entry)) (now (w .exit)) n (λ i. i) (λ i. +0) ⌝ }
+{
+    let mut i = 0;
+    while i < n {
+        w[i] = 0.0;
+        i += 1;
+    }
+}
+
+// The product of the n rows from `at` of one column with the first of them is added to w.
+fn add1(w: &mut [f64], v: &[f64], at: usize, n: usize)
+    requires { ⌜ (n ≤ length (now w)) × (at + n ≤ length (now v)) × (0 < n) ⌝ }
+    ensures { λ r. ⌜ Touched nan (now (w .entry)) (now (w .exit)) n (λ i. i) (λ i. add binary64 (getD (now (w .entry)) i nan) (mul binary64 (getD (now (v .entry)) (at + i) nan) (getD (now (v .entry)) at nan))) ⌝ }
+{
+    let a = v[at];
+    let mut i = 0;
+    while i < n {
+        w[i] = w[i] + v[at + i] * a;
+        i += 1;
+    }
+}
+
+// One sum for each row from q of an m-row trapezoid: over its first kw columns, each row times row q.
+pub fn sums(work: &mut [f64], v: &[f64], m: usize, q: usize, kw: usize)
+    requires { ⌜ (kw ≤ q) × (q < m) × (m ≤ 32768) × (trapezoid m kw ≤ length (now v)) × (m - q ≤ length (now work)) ⌝ }
+    ensures { λ r. ⌜ Touched nan (now (work .entry)) (now (work .exit)) (m - q) (λ i. i) (λ i. dot (cell m (now (v .entry)) (q + i)) (cell m (now (v .entry)) q) kw) ⌝ }
+{
+    let n = m - q;
+    clear(work, n);
+    let mut k = 0;
+    let mut at = q;
+    while k < kw {
+        add1(work, v, at, n);
+        at = at + m - k - 1;
+        k += 1;
+    }
+}
+
+// Where column c of an m-row trapezoid starts.
+pub fn column_start(m: usize, c: usize) -> usize
+    requires { ⌜ (c ≤ m) × (m ≤ 32768) ⌝ }
+    ensures { λ r. ⌜ r ≡ trapezoid m c ⌝ }
+{
+    if c == 0 {
+        return 0;
+    }
+    c * m - c * (c - 1) / 2
+}
+
+// work is subtracted from the n places from `at`.
+fn subtract_run(own: &mut [f64], at: usize, work: &[f64], n: usize)
+    requires { ⌜ (n ≤ length (now work)) × (at + n ≤ length (now own)) ⌝ }
+    ensures { λ r. ⌜ Touched nan (now (own .entry)) (now (own .exit)) n (λ i. at + i) (λ i. sub binary64 (getD (now (own .entry)) (at + i) nan) (getD (now (work .entry)) i nan)) ⌝ }
+{
+    let mut i = 0;
+    while i < n {
+        own[at + i] = own[at + i] - work[i];
+        i += 1;
+    }
+}
+
+// From the n places from dst, the products of the n places from src with the first of them.
+fn sub1(own: &mut [f64], dst: usize, src: usize, n: usize)
+    requires { ⌜ (0 < n) × (src + n ≤ dst) × (dst + n ≤ length (now own)) ⌝ }
+    ensures { λ r. ⌜ Touched nan (now (own .entry)) (now (own .exit)) n (λ i. dst + i) (λ i. sub binary64 (getD (now (own .entry)) (dst + i) nan) (mul binary64 (getD (now (own .entry)) (src + i) nan) (getD (now (own .entry)) src nan))) ⌝ }
+{
+    let a = own[src];
+    let mut i = 0;
+    while i < n {
+        own[dst + i] = own[dst + i] - own[src + i] * a;
+        i += 1;
+    }
+}
+
+// The n places from `at` are divided by r.
+fn divide(own: &mut [f64], at: usize, n: usize, r: f64)
+    requires { ⌜ at + n ≤ length (now own) ⌝ }
+    ensures { λ u. ⌜ Touched nan (now (own .entry)) (now (own .exit)) n (λ i. at + i) (λ i. div binary64 (getD (now (own .entry)) (at + i) nan) r) ⌝ }
+{
+    let mut i = 0;
+    while i < n {
+        own[at + i] = own[at + i] / r;
+        i += 1;
+    }
+}
+
+// From column c, the products of the columns from c0 before it, singly.
+fn singles(own: &mut [f64], m: usize, c0: usize, c: usize)
+    requires { ⌜ (c0 ≤ c) × (c < m) × (m ≤ 32768) × (trapezoid m c + (m - c) ≤ length (now own)) ⌝ }
+    ensures { λ r. ⌜ Touched nan (now (own .entry)) (now (own .exit)) (m - c) (λ i. trapezoid m c + i) (λ i. singly (getD (now (own .entry)) (trapezoid m c + i) nan) (cell m (now (own .entry)) (c + i)) (cell m (now (own .entry)) c) c0 (c - c0)) ⌝ }
+{
+    let dst = column_start(m, c);
+    let n = m - c;
+    let mut k = c0;
+    let mut src = column_start(m, c0) + c - c0;
+    while k < c {
+        sub1(own, dst, src, n);
+        src = src + m - k - 1;
+        k += 1;
+    }
+}
+
+// From column c, the sum over the columns before its panel, if there are any.
+fn before_panel(own: &mut [f64], work: &mut [f64], m: usize, c: usize)
+    requires { ⌜ (c < m) × (m ≤ 32768) × (trapezoid m c + (m - c) ≤ length (now own)) × (m ≤ length (now work)) ⌝ }
+    ensures { λ r. ⌜ Touched nan (now (own .entry)) (now (own .exit)) (m - c) (λ i. trapezoid m c + i) (λ i. cond (ltb c 64) (getD (now (own .entry)) (trapezoid m c + i) nan) (sub binary64 (getD (now (own .entry)) (trapezoid m c + i) nan) (dot (cell m (now (own .entry)) (c + i)) (cell m (now (own .entry)) c) (panel c)))) ⌝ }
+{
+    if c < 64 {
+        return;
+    }
+    sums(work, own, m, c, c / 64 * 64);
+    let at = column_start(m, c);
+    subtract_run(own, at, work, m - c);
+}
+
+// Column c, less the products of the columns before it.
+fn reduce(own: &mut [f64], work: &mut [f64], m: usize, c: usize)
+    requires { ⌜ (c < m) × (m ≤ 32768) × (trapezoid m c + (m - c) ≤ length (now own)) × (m ≤ length (now work)) ⌝ }
+    ensures { λ r. ⌜ Touched nan (now (own .entry)) (now (own .exit)) (m - c) (λ i. trapezoid m c + i) (λ i. inner m (now (own .entry)) (c + i) c (getD (now (own .entry)) (trapezoid m c + i) nan)) ⌝ }
+{
+    before_panel(own, work, m, c);
+    singles(own, m, c / 64 * 64, c);
+}
+
+// Whether d passes as the pivot of a column whose own diagonal entry is a.
+fn good_pivot(a: f64, d: f64) -> bool
+    ensures { λ r. ⌜ r ≡ passes a d ⌝ }
+{
+    if root::is_finite(d) {
+        0.0000000001 * root::abs(a) < d
+    } else {
+        false
+    }
+}
+
+// Column c of a trapezoid: reduced, tested, and divided by the root of its pivot.
+fn column(own: &mut [f64], work: &mut [f64], m: usize, c: usize, a: f64) -> bool
+    requires { ⌜ (c < m) × (m ≤ 32768) × (trapezoid m c + (m - c) ≤ length (now own)) × (m ≤ length (now work)) ⌝ }
+    ensures { λ r. ⌜ Column m c a (now (own .entry)) (now (own .exit)) r ⌝ }
+{
+    reduce(own, work, m, c);
+    let at = column_start(m, c);
+    let d = own[at];
+    if good_pivot(a, d) {
+        let r = root::root(d);
+        own[at] = r;
+        divide(own, at + 1, m - c - 1, r);
+        true
+    } else {
+        false
+    }
+}
+
+// The value at row i among the places from t0 below t1, 0.0 if there is none.
+fn find(rows: &[usize], vals: &[f64], t0: usize, t1: usize, i: usize) -> f64
+    requires { ⌜ (t0 ≤ t1) × (t1 ≤ length (now rows)) × (t1 ≤ length (now vals)) ⌝ }
+    ensures { λ r. ⌜ r ≡ among (now (rows .entry)) (now (vals .entry)) t0 t1 i ⌝ }
+{
+    let mut t = t0;
+    while t < t1 {
+        if rows[t] == i {
+            return vals[t];
+        }
+        t += 1;
+    }
+    0.0
+}
+
+// A(j,j).
+fn diagonal(starts: &[usize], rows: &[usize], vals: &[f64], j: usize, n: usize) -> f64
+    requires { ⌜ Lower (now starts) (now rows) (now vals) n ⌝ }
+    requires { ⌜ j < n ⌝ }
+    ensures { λ r. ⌜ r ≡ lowerValue (now (starts .entry)) (now (rows .entry)) (now (vals .entry)) j j ⌝ }
+{
+    let t0 = starts[j];
+    let t1 = starts[j + 1];
+    find(rows, vals, t0, t1, j)
+}
+
+// The dense factor of w columns of an m-row trapezoid in place; f is the first of them. The number of columns that passed. The first a floats are
+// A's values, the work space stands after them.
+pub fn dense(
+    own: &mut [f64],
+    floats: &mut [f64],
+    a: usize,
+    m: usize,
+    w: usize,
+    f: usize,
+    starts: &[usize],
+    rows: &[usize],
+    n: usize,
+) -> usize
+    requires { ⌜ (w ≤ m) × (m ≤ 32768) × (trapezoid m w ≤ length (now own)) × (a + m ≤ length (now floats)) × (f + w ≤ n) ⌝ }
+    requires { ⌜ Lower (now starts) (now rows) (take a (now floats)) n ⌝ }
+    ensures { λ r. ⌜ Dense m w (λ c. lowerValue (now (starts .entry)) (now (rows .entry)) (take a (now (floats .entry))) (f + c) (f + c)) (now (own .entry)) (now (own .exit)) r ⌝ }
+    ensures { λ r. ⌜ take a (now (floats .exit)) ≡ take a (now (floats .entry)) ⌝ }
+{
+    let mut c = 0;
+    while c < w {
+        let d = diagonal(starts, rows, &floats[..a], f + c, n);
+        if column(own, &mut floats[a..], m, c, d) {
+            c += 1;
+        } else {
+            return c;
+        }
+    }
+    w
+}

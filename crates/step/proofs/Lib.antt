@@ -1,0 +1,7 @@
+pub mod Ends
+pub mod Assembles
+pub mod Scatters
+pub mod Earlies
+pub mod Gather
+pub mod Takes
+pub mod Spots

@@ -1,0 +1,4 @@
+pub mod Answer
+pub mod Ready
+pub mod Update
+pub mod Spread

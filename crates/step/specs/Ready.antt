@@ -1,0 +1,123 @@
+-- What the step asks of the structure that is lent to it: the analysis gives it. Assumes nothing.
+use mathlib.Core.Path.{_≡_}
+use mathlib.Core.Bool.{true}
+use mathlib.Core.List.{List, []}
+use Prim.Native.Nat.{ℕ, suc, _+_, _-_, _≤_, _<_}
+use lib.ListN.{length, getD}
+use lib.Ieee.{Float, nan}
+use Rattle.areas.specs.Touch.{Touched}
+use Rattle.panels.specs.Dense.{cell}
+use Rattle.step.specs.Update.{Updated}
+use Rattle.statement.specs.Shape.{Shape, first, width, height, rowsOf, trapezoid, offset}
+use Rattle.statement.specs.Lists.{has}
+use Rattle.statement.specs.Input.{+0}
+use Rattle.statement.specs.Rules.{earlier}
+use Rattle.laws.specs.Lower.{lowerValue}
+
+-- the lent lists as a structure; the step asks nothing of the parents
+abbrev pub lent : ℕ → List ℕ → List ℕ → List ℕ → Shape
+lent n firsts starts rows = record { n = n; firsts = firsts; starts = starts; rows = rows; parents = [] }
+
+-- row p of the supernode K
+abbrev pub row : Shape → ℕ → ℕ → ℕ
+row S K p = getD (rowsOf S K) p 0
+
+-- of the first N supernodes: first columns rise; rows rise strictly, begin with the supernode's own columns and stay below n
+pub record Rows (S : Shape) (N : ℕ) : Type 0 where
+  pub few : S .n ≤ 32768
+  pub rise : (K : ℕ) → K < N → first S K < first S (suc K)
+  pub tall : (K : ℕ) → K < N → width S K ≤ height S K
+  pub own : (K c : ℕ) → K < N → c < width S K → row S K c ≡ first S K + c
+  pub sorted : (K p q : ℕ) → K < N → p < q → q < height S K → row S K p < row S K q
+  pub below : (K p : ℕ) → K < N → p < height S K → row S K p < S .n
+  pub ends : N < length (S .firsts)
+  pub many : N < length (S .starts)
+  pub ordered : (K : ℕ) → K < N → getD (S .starts) K 0 ≤ getD (S .starts) (suc K) 0
+  pub listed : (K : ℕ) → K < N → getD (S .starts) (suc K) 0 ≤ length (S .rows)
+
+-- an update's three words: the supernode, and the positions of its rows that are columns of the target
+abbrev pub word : List (List ℕ) → ℕ → ℕ → ℕ
+word upd u k = getD (getD upd u []) k 0
+
+abbrev pub source : List (List ℕ) → ℕ → ℕ
+source upd u = word upd u 0
+
+abbrev pub low : List (List ℕ) → ℕ → ℕ
+low upd u = word upd u 1
+
+abbrev pub high : List (List ℕ) → ℕ → ℕ
+high upd u = word upd u 2
+
+-- the updates from u0 below u1 are those of J, rising
+pub record Listed (S : Shape) (J : ℕ) (upd : List (List ℕ)) (u0 u1 : ℕ) : Type 0 where
+  pub ordered : u0 ≤ u1
+  pub room : u1 ≤ length upd
+  pub before : (u : ℕ) → u0 ≤ u → u < u1 → source upd u < J
+  pub rising : (u t : ℕ) → u0 ≤ u → u < t → t < u1 → source upd u < source upd t
+  pub run : (u : ℕ) → u0 ≤ u → u < u1 → (low upd u ≤ high upd u) × (high upd u ≤ height S (source upd u))
+  pub past : (u : ℕ) → u0 ≤ u → u < u1 → width S (source upd u) ≤ low upd u
+  pub columns : (u q : ℕ) → u0 ≤ u → u < u1 → low upd u ≤ q → q < high upd u → (first S J ≤ row S (source upd u) q) × (row S (source upd u) q < first S (suc J))
+  pub only : (u q : ℕ) → u0 ≤ u → u < u1 → q < height S (source upd u) → first S J ≤ row S (source upd u) q → row S (source upd u) q < first S (suc J) → (low upd u ≤ q) × (q < high upd u)
+  pub nested : (u q : ℕ) → u0 ≤ u → u < u1 → low upd u ≤ q → q < height S (source upd u) → has (row S (source upd u) q) (rowsOf S J) ≡ true
+  pub all : (K j : ℕ) → K < J → first S J ≤ j → j < first S (suc J) → has j (rowsOf S K) ≡ true → (u : ℕ) × (u0 ≤ u) × (u < u1) × (source upd u ≡ K)
+
+-- where the stretches up to J's start
+pub record Offsets (S : Shape) (J : ℕ) (offs : List ℕ) : Type 0 where
+  pub room : J < length offs
+  pub at : (K : ℕ) → K ≤ J → getD offs K 0 ≡ offset S K
+
+-- J's rows know their positions
+abbrev pub Placed : Shape → ℕ → List ℕ → Type 0
+Placed S J pl = (p : ℕ) → p < height S J → getD pl (row S J p) 0 ≡ p
+
+-- J's own stretch, as the code has it at hand, and room for the rest
+pub record Own (S : Shape) (J off m w : ℕ) (pl : List ℕ) (vlen wlen : ℕ) : Type 0 where
+  pub offIs : off ≡ offset S J
+  pub mIs : m ≡ height S J
+  pub wIs : w ≡ width S J
+  pub placed : Placed S J pl
+  pub places : S .n ≤ length pl
+  pub work : S .n ≤ wlen
+  pub values : offset S (suc J) ≤ vlen
+
+-- what one update leaves
+abbrev pub Took : Shape → ℕ → List (List ℕ) → ℕ → List ℕ → List Float → List Float → Type 0
+Took S J upd u pl old new =
+    let K = source upd u in
+    Updated pl (S .rows) old new (offset S J) (height S J) (getD (S .starts) K 0) (height S K) (width S K) (offset S K) (low upd u) (high upd u)
+
+-- where row p of column c of J lies
+abbrev pub at : Shape → ℕ → ℕ → ℕ → ℕ
+at S J p c = offset S J + (trapezoid (height S J) c + (p - c))
+
+-- what all updates leave: each entry less a sum for each earlier supernode, and nothing else changed
+pub record Gathered (S : Shape) (J : ℕ) (old new : List Float) : Type 0 where
+  pub size : length new ≡ length old
+  pub cells : (A : ℕ → ℕ → Float) (p c : ℕ) → c < width S J → c ≤ p → p < height S J → getD new (at S J p c) nan ≡ earlier S A old (row S J p) (first S J + c) (getD old (at S J p c) nan) J
+  pub before : (x : ℕ) → x < offset S J → getD new x nan ≡ getD old x nan
+  pub after : (x : ℕ) → offset S (suc J) ≤ x → getD new x nan ≡ getD old x nan
+
+-- J's own stretch before it holds anything, as a part that starts there
+pub record Fresh (S : Shape) (J m w f : ℕ) (pl : List ℕ) (olen : ℕ) : Type 0 where
+  pub mIs : m ≡ height S J
+  pub wIs : w ≡ width S J
+  pub fIs : f ≡ first S J
+  pub placed : Placed S J pl
+  pub places : S .n ≤ length pl
+  pub own : trapezoid (height S J) (width S J) ≤ olen
+
+-- where the entry i of A's column c of J lies
+abbrev pub spotA : Shape → ℕ → List ℕ → List ℕ → List ℕ → ℕ → ℕ → ℕ
+spotA S J starts rows pl c i = trapezoid (height S J) c + (getD pl (getD rows (getD starts (first S J + c) 0 + i) 0) 0 - c)
+
+-- the entries of column c are stored
+abbrev pub Scattered : Shape → ℕ → List ℕ → List ℕ → List Float → List ℕ → ℕ → List Float → List Float → Type 0
+Scattered S J starts rows vals pl c old new =
+    Touched nan old new (getD starts (first S J + c + 1) 0 - getD starts (first S J + c) 0) (spotA S J starts rows pl c) (λ i. getD vals (getD starts (first S J + c) 0 + i) nan)
+
+-- the first w columns hold A's entries, the others of J zeros
+pub record FromA (S : Shape) (J : ℕ) (starts rows : List ℕ) (vals : List Float) (w : ℕ) (old new : List Float) : Type 0 where
+  pub size : length new ≡ length old
+  pub cells : (p c : ℕ) → c < w → c ≤ p → p < height S J → cell (height S J) new p c ≡ lowerValue starts rows vals (row S J p) (first S J + c)
+  pub zeros : (x : ℕ) → trapezoid (height S J) w ≤ x → x < trapezoid (height S J) (width S J) → getD new x nan ≡ +0
+  pub after : (x : ℕ) → trapezoid (height S J) (width S J) ≤ x → getD new x nan ≡ getD old x nan

@@ -1,0 +1,415 @@
+// One supernode's step: its stretch of the values from A and the earlier supernodes' stretches.
+ghost use mathlib.Core.Path.{_≡_};
+ghost use Prim.Native.Nat.{ℕ, suc, _+_, _-_, _<_, _≤_};
+ghost use lib.ListN.{getD, length, take, drop};
+ghost use lib.Ieee.{nan, binary64, sub};
+ghost use Rattle.statement.specs.Shape.{width};
+ghost use Rattle.statement.specs.Rules.{dot};
+ghost use Rattle.laws.specs.Lower.{lowerValue, Lower, Pattern};
+ghost use Rattle.areas.specs.Touch.{Touched};
+ghost use Rattle.panels.specs.Dense.{cell};
+ghost use Rattle.step.specs.Answer.{Assembled, Ready, Stepped};
+ghost use Rattle.step.specs.Ready.{lent, Rows, Listed, Offsets, Own, Took, Gathered, Fresh, Scattered, FromA};
+ghost use Rattle.step.specs.Update.{spotOf, Target, Source, Updated};
+ghost use Rattle.step.specs.Spread.{through, Spread};
+use statement::Factored;
+
+// place[rows[r0 + p]] = p for each of the m rows.
+pub fn set_places(place: &mut [usize], rows: &[usize], r0: usize, m: usize)
+    requires { ⌜ r0 + m ≤ length (now rows) ⌝ }
+    requires { ⌜ ((p : ℕ) → p < m → getD (now rows) (r0 + p) 0 < length (now place)) ⌝ }
+    requires { ⌜ ((p q : ℕ) → p < q → q < m → getD (now rows) (r0 + p) 0 < getD (now rows) (r0 + q) 0) ⌝ }
+    ensures { λ r. ⌜ Touched 0 (now (place .entry)) (now (place .exit)) m (λ p. getD (now (rows .entry)) (r0 + p) 0) (λ p. p) ⌝ }
+{
+    let mut p = 0;
+    while p < m {
+        let r = rows[r0 + p];
+        place[r] = p;
+        p += 1;
+    }
+}
+
+// The n values from `at` are lowerValue at the places of their rows.
+fn store_through(
+    own: &mut [f64],
+    base: usize,
+    place: &[usize],
+    rows: &[usize],
+    at: usize,
+    vals: &[f64],
+    n: usize,
+)
+    requires { ⌜ Spread (now place) (now rows) base at n (length (now own)) ⌝ }
+    requires { ⌜ at + n ≤ length (now vals) ⌝ }
+    ensures { λ r. ⌜ Touched nan (now (own .entry)) (now (own .exit)) n (through (now (place .entry)) (now (rows .entry)) base at) (λ i. getD (now (vals .entry)) (at + i) nan) ⌝ }
+{
+    let mut i = 0;
+    while i < n {
+        let r = rows[at + i];
+        let p = base + place[r];
+        own[p] = vals[at + i];
+        i += 1;
+    }
+}
+
+// work is subtracted at the places of the n rows from `at`.
+fn subtract_through(
+    own: &mut [f64],
+    base: usize,
+    place: &[usize],
+    rows: &[usize],
+    at: usize,
+    work: &[f64],
+    n: usize,
+)
+    requires { ⌜ Spread (now place) (now rows) base at n (length (now own)) ⌝ }
+    requires { ⌜ n ≤ length (now work) ⌝ }
+    ensures { λ r. ⌜ Touched nan (now (own .entry)) (now (own .exit)) n (through (now (place .entry)) (now (rows .entry)) base at) (λ i. sub binary64 (getD (now (own .entry)) (through (now (place .entry)) (now (rows .entry)) base at i) nan) (getD (now (work .entry)) i nan)) ⌝ }
+{
+    let mut i = 0;
+    while i < n {
+        let r = rows[at + i];
+        let p = base + place[r];
+        own[p] = own[p] - work[i];
+        i += 1;
+    }
+}
+
+// One target column of an update: from the column of row q of the earlier supernode, whose stretch starts at kv, its sum for each row from q.
+fn update_column(
+    values: &mut [f64],
+    off: usize,
+    m: usize,
+    place: &[usize],
+    rows: &[usize],
+    kr: usize,
+    km: usize,
+    kw: usize,
+    kv: usize,
+    q: usize,
+    work: &mut [f64],
+)
+    requires { ⌜ Target (now place) (now rows) (length (now values)) (length (now work)) off m kr km kw kv q ⌝ }
+    ensures { λ r. ⌜ Touched nan (now (values .entry)) (now (values .exit)) (km - q) (λ i. off + spotOf (now (place .entry)) (now (rows .entry)) m kr q (q + i)) (λ i. sub binary64 (getD (now (values .entry)) (off + spotOf (now (place .entry)) (now (rows .entry)) m kr q (q + i)) nan) (dot (cell km (drop kv (now (values .entry))) (q + i)) (cell km (drop kv (now (values .entry))) q) kw)) ⌝ }
+{
+    panels::sums(work, &values[kv..], km, q, kw);
+    let at = kr + q;
+    let r = rows[at];
+    let c = place[r];
+    let base = panels::column_start(m, c) - c;
+    subtract_through(&mut values[off..], base, place, rows, at, work, km - q);
+}
+
+// An update: a target column for each of the earlier supernode's rows from p1 below p2.
+fn update(
+    values: &mut [f64],
+    off: usize,
+    m: usize,
+    w: usize,
+    place: &[usize],
+    rows: &[usize],
+    kr: usize,
+    km: usize,
+    kw: usize,
+    kv: usize,
+    p1: usize,
+    p2: usize,
+    work: &mut [f64],
+)
+    requires { ⌜ Source (now place) (now rows) (length (now values)) (length (now work)) off m w kr km kw kv p1 p2 ⌝ }
+    ensures { λ r. ⌜ Updated (now (place .entry)) (now (rows .entry)) (now (values .entry)) (now (values .exit)) off m kr km kw kv p1 p2 ⌝ }
+{
+    let mut q = p1;
+    while q < p2 {
+        update_column(values, off, m, place, rows, kr, km, kw, kv, q, work);
+        q += 1;
+    }
+}
+
+// The update u of the supernode j, whose stretch starts at off and has m rows and w columns.
+fn one_update(
+    values: &mut [f64],
+    j: usize,
+    off: usize,
+    m: usize,
+    w: usize,
+    n: usize,
+    first: &[usize],
+    starts: &[usize],
+    rows: &[usize],
+    offs: &[usize],
+    upd: &[[usize; 3]],
+    u0: usize,
+    u1: usize,
+    u: usize,
+    place: &[usize],
+    work: &mut [f64],
+)
+    requires { ⌜ Rows (lent n (now first) (now starts) (now rows)) (suc j) ⌝ }
+    requires { ⌜ Listed (lent n (now first) (now starts) (now rows)) j (now upd) u0 u1 ⌝ }
+    requires { ⌜ Offsets (lent n (now first) (now starts) (now rows)) j (now offs) ⌝ }
+    requires { ⌜ Own (lent n (now first) (now starts) (now rows)) j off m w (now place) (length (now values)) (length (now work)) ⌝ }
+    requires { ⌜ (u0 ≤ u) × (u < u1) ⌝ }
+    ensures { λ r. ⌜ Took (lent n (now (first .entry)) (now (starts .entry)) (now (rows .entry))) j (now (upd .entry)) u (now (place .entry)) (now (values .entry)) (now (values .exit)) ⌝ }
+{
+    let t = upd[u];
+    let k = t[0];
+    let p1 = t[1];
+    let p2 = t[2];
+    let kr = starts[k];
+    let km = starts[k + 1] - kr;
+    let kw = first[k + 1] - first[k];
+    let kv = offs[k];
+    update(values, off, m, w, place, rows, kr, km, kw, kv, p1, p2, work);
+}
+
+// All updates of the supernode j.
+fn updates(
+    values: &mut [f64],
+    j: usize,
+    off: usize,
+    m: usize,
+    w: usize,
+    n: usize,
+    first: &[usize],
+    starts: &[usize],
+    rows: &[usize],
+    offs: &[usize],
+    upd: &[[usize; 3]],
+    u0: usize,
+    u1: usize,
+    place: &[usize],
+    work: &mut [f64],
+)
+    requires { ⌜ Rows (lent n (now first) (now starts) (now rows)) (suc j) ⌝ }
+    requires { ⌜ Listed (lent n (now first) (now starts) (now rows)) j (now upd) u0 u1 ⌝ }
+    requires { ⌜ Offsets (lent n (now first) (now starts) (now rows)) j (now offs) ⌝ }
+    requires { ⌜ Own (lent n (now first) (now starts) (now rows)) j off m w (now place) (length (now values)) (length (now work)) ⌝ }
+    ensures { λ r. ⌜ Gathered (lent n (now (first .entry)) (now (starts .entry)) (now (rows .entry))) j (now (values .entry)) (now (values .exit)) ⌝ }
+{
+    let mut u = u0;
+    while u < u1 {
+        one_update(
+            values,
+            j,
+            off,
+            m,
+            w,
+            n,
+            first,
+            starts,
+            rows,
+            offs,
+            upd,
+            u0,
+            u1,
+            u,
+            place,
+            work,
+        );
+        u += 1;
+    }
+}
+
+// Column c of the supernode j takes its entries of A, in a stretch that is zero there.
+fn from_a_column(
+    own: &mut [f64],
+    c: usize,
+    j: usize,
+    m: usize,
+    w: usize,
+    f: usize,
+    n: usize,
+    first: &[usize],
+    starts: &[usize],
+    rows: &[usize],
+    astarts: &[usize],
+    arows: &[usize],
+    avals: &[f64],
+    place: &[usize],
+)
+    requires { ⌜ Rows (lent n (now first) (now starts) (now rows)) (suc j) ⌝ }
+    requires { ⌜ Lower (now astarts) (now arows) (now avals) n ⌝ }
+    requires { ⌜ Pattern (lent n (now first) (now starts) (now rows)) j (now astarts) (now arows) ⌝ }
+    requires { ⌜ Fresh (lent n (now first) (now starts) (now rows)) j m w f (now place) (length (now own)) ⌝ }
+    requires { ⌜ c < w ⌝ }
+    ensures { λ r. ⌜ Scattered (lent n (now (first .entry)) (now (starts .entry)) (now (rows .entry))) j (now (astarts .entry)) (now (arows .entry)) (now (avals .entry)) (now (place .entry)) c (now (own .entry)) (now (own .exit)) ⌝ }
+{
+    let k = f + c;
+    let t0 = astarts[k];
+    let t1 = astarts[k + 1];
+    let base = panels::column_start(m, c) - c;
+    store_through(own, base, place, arows, t0, avals, t1 - t0);
+}
+
+// The stretch of the supernode j, from A alone.
+fn from_a(
+    own: &mut [f64],
+    j: usize,
+    m: usize,
+    w: usize,
+    f: usize,
+    n: usize,
+    first: &[usize],
+    starts: &[usize],
+    rows: &[usize],
+    astarts: &[usize],
+    arows: &[usize],
+    avals: &[f64],
+    place: &[usize],
+)
+    requires { ⌜ Rows (lent n (now first) (now starts) (now rows)) (suc j) ⌝ }
+    requires { ⌜ Lower (now astarts) (now arows) (now avals) n ⌝ }
+    requires { ⌜ Pattern (lent n (now first) (now starts) (now rows)) j (now astarts) (now arows) ⌝ }
+    requires { ⌜ Fresh (lent n (now first) (now starts) (now rows)) j m w f (now place) (length (now own)) ⌝ }
+    ensures { λ r. ⌜ FromA (lent n (now (first .entry)) (now (starts .entry)) (now (rows .entry))) j (now (astarts .entry)) (now (arows .entry)) (now (avals .entry)) (width (lent n (now (first .entry)) (now (starts .entry)) (now (rows .entry))) j) (now (own .entry)) (now (own .exit)) ⌝ }
+{
+    panels::clear(own, panels::column_start(m, w));
+    let mut c = 0;
+    while c < w {
+        from_a_column(
+            own,
+            c,
+            j,
+            m,
+            w,
+            f,
+            n,
+            first,
+            starts,
+            rows,
+            astarts,
+            arows,
+            avals,
+            place,
+        );
+        c += 1;
+    }
+}
+
+// The stretch of the supernode j from A and the earlier supernodes. The first a floats are A's values, the work space stands after them.
+fn assemble(
+    values: &mut [f64],
+    j: usize,
+    off: usize,
+    m: usize,
+    w: usize,
+    f: usize,
+    n: usize,
+    a: usize,
+    first: &[usize],
+    starts: &[usize],
+    rows: &[usize],
+    offs: &[usize],
+    upd: &[[usize; 3]],
+    u0: usize,
+    u1: usize,
+    astarts: &[usize],
+    arows: &[usize],
+    floats: &mut [f64],
+    place: &[usize],
+)
+    requires { ⌜ Rows (lent n (now first) (now starts) (now rows)) (suc j) ⌝ }
+    requires { ⌜ Listed (lent n (now first) (now starts) (now rows)) j (now upd) u0 u1 ⌝ }
+    requires { ⌜ Offsets (lent n (now first) (now starts) (now rows)) j (now offs) ⌝ }
+    requires { ⌜ (Lower (now astarts) (now arows) (take a (now floats)) n) × (Pattern (lent n (now first) (now starts) (now rows)) j (now astarts) (now arows)) ⌝ }
+    requires { ⌜ (Own (lent n (now first) (now starts) (now rows)) j off m w (now place) (length (now values)) (length (now floats) - a)) × (f ≡ getD (now first) j 0) × (a ≤ length (now floats)) ⌝ }
+    ensures { λ r. ⌜ Assembled (lent n (now (first .entry)) (now (starts .entry)) (now (rows .entry))) (lowerValue (now (astarts .entry)) (now (arows .entry)) (take a (now (floats .entry)))) j (now (values .entry)) (now (values .exit)) ⌝ }
+    ensures { λ r. ⌜ take a (now (floats .exit)) ≡ take a (now (floats .entry)) ⌝ }
+{
+    from_a(
+        &mut values[off..],
+        j,
+        m,
+        w,
+        f,
+        n,
+        first,
+        starts,
+        rows,
+        astarts,
+        arows,
+        &floats[..a],
+        place,
+    );
+    updates(
+        values,
+        j,
+        off,
+        m,
+        w,
+        n,
+        first,
+        starts,
+        rows,
+        offs,
+        upd,
+        u0,
+        u1,
+        place,
+        &mut floats[a..],
+    );
+}
+
+pub enum StepAnswer {
+    Made,
+    // the first column whose pivot breaks the rule
+    Broke(Factored),
+}
+
+// The step of the supernode j, whose rows' positions stand in place: its stretch of the values becomes what the entry rules make of A and of the
+// earlier supernodes' stretches as they stand, or zeros where a pivot breaks the rule. Nothing else of the values is changed. The first a floats
+// are A's values, the work space stands after them.
+pub fn step(
+    j: usize,
+    n: usize,
+    a: usize,
+    first: &[usize],
+    starts: &[usize],
+    rows: &[usize],
+    offs: &[usize],
+    upd: &[[usize; 3]],
+    u0: usize,
+    u1: usize,
+    astarts: &[usize],
+    arows: &[usize],
+    values: &mut [f64],
+    floats: &mut [f64],
+    place: &[usize],
+) -> StepAnswer
+    requires { ⌜ Ready (lent n (now first) (now starts) (now rows)) j a (now offs) (now upd) u0 u1 (now astarts) (now arows) (now floats) (length (now values)) (now place) ⌝ }
+    ensures { λ r. ⌜ Stepped (lent n (now (first .entry)) (now (starts .entry)) (now (rows .entry))) (lowerValue (now (astarts .entry)) (now (arows .entry)) (take a (now (floats .entry)))) j (now (values .entry)) (now (values .exit)) r ⌝ }
+    ensures { λ r. ⌜ take a (now (floats .exit)) ≡ take a (now (floats .entry)) ⌝ }
+{
+    let f = first[j];
+    let w = first[j + 1] - f;
+    let m = starts[j + 1] - starts[j];
+    let off = offs[j];
+    assemble(
+        values,
+        j,
+        off,
+        m,
+        w,
+        f,
+        n,
+        a,
+        first,
+        starts,
+        rows,
+        offs,
+        upd,
+        u0,
+        u1,
+        astarts,
+        arows,
+        floats,
+        place,
+    );
+    let c = panels::dense(&mut values[off..], floats, a, m, w, f, astarts, arows, n);
+    if c < w {
+        panels::clear(&mut values[off..], panels::column_start(m, w));
+        return StepAnswer::Broke(Factored(f + c));
+    }
+    StepAnswer::Made
+}
