@@ -68,7 +68,7 @@ column-start-requires : tie.Need-column-start-requires Inv-loop μ-loop
 column-start-requires c κs =
     let pre′ = c .before .before .before .before .before .before .before .before .before .pre in
     let loop-test′ = c .before .before .before .before .loop-test in
-    let h = here (pre′ .0) _ (loop-test′ .taken) in (h .tall, h .small)
+    let h = here (pre′ .0) _ (loop-test′ .taken) in (omega arith, omega arith)
 
 add-at : tie.Need-add-at Inv-loop μ-loop
 add-at c =
