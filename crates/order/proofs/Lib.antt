@@ -1,3 +1,4 @@
 pub mod Naming
 pub mod Taking
 pub mod Fault
+pub mod Shaped
