@@ -17,9 +17,11 @@ use lib.Ieee.{Float, nan, inf, fin, binary64, ne, eq, isNan, toBits, ofBits, fit
 use lib.Ieee.Bits.{ofBits-toBits, toBits-lt}
 use Rattle.statement.specs.Lists.{joined}
 use Rattle.statement.specs.Input.{+0}
-use Rattle.statement.specs.Job.{hexDigit, hexValue, hex, valueFrom, success}
+use Rattle.statement.specs.Answers.{number, details}
+use Rattle.statement.specs.declared.Answer.{Answer}
+use Rattle.statement.specs.Job.{hexDigit, hexValue, hex, valueFrom, refusal, success}
 use Rattle.areas.proofs.Lists.{getD-any}
-use Rattle.lines.specs.Placed.{placed, sizesLine, unknownLine}
+use Rattle.lines.specs.Placed.{placed, sizesLine, unknownLine, refusalLine}
 
 pub hex-length : (k x : ℕ) → length (hex k x) ≡ k
 unfolding hex
@@ -168,6 +170,11 @@ sizes-length entries supernodes = simp (length-append, hex-length)
 
 pub unknown-length : (position : ℕ) (x : Float) → length (unknownLine position x) ≡ 23
 unknown-length position x = simp (length-append, hex-length)
+
+pub refusal-is : (t d : List ℕ) (a : Answer) (k first second : ℕ) → t ≡ placed d 0 (refusalLine k first second) → k ≡ number a → first ≡ getD (details a) 0 0 → second ≡ getD (details a) 1 0
+    → (t ≡ placed d 0 (refusal a)) × (21 ≡ length (refusal a))
+unfolding refusal
+refusal-is t d a k first second e p q r = (e ∙ rw (p, q, r), sym (simp (length-append, hex-length)))
 
 abbrev pub unknowns : List Float → ℕ → List ℕ
 unknowns x k = joined (λ i. unknownLine i (getD x i +0)) k

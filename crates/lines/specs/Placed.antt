@@ -16,3 +16,7 @@ sizesLine entries supernodes = hex 2 0x81 ++ hex 8 entries ++ hex 4 supernodes +
 -- `82` position(4) bits(16)
 abbrev pub unknownLine : ℕ → Float → List ℕ
 unknownLine position x = hex 2 0x82 ++ hex 4 position ++ hex 16 (toBits binary64 x) ++ (10 ∷ [])
+
+-- `8F` number(2) and two details(8 each)
+abbrev pub refusalLine : ℕ → ℕ → ℕ → List ℕ
+refusalLine number first second = hex 2 0x8F ++ hex 2 number ++ hex 8 first ++ hex 8 second ++ (10 ∷ [])

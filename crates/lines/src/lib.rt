@@ -4,7 +4,7 @@ ghost use Prim.Native.Nat.{ℕ, _+_, _*_, _≤_, _<_};
 ghost use lib.ListN.{length};
 ghost use lib.Ieee.{binary64, toBits};
 ghost use Rattle.statement.specs.Job.{hexDigit, hex, refusal, success};
-ghost use Rattle.lines.specs.Placed.{placed, sizesLine, unknownLine};
+ghost use Rattle.lines.specs.Placed.{placed, sizesLine, unknownLine, refusalLine};
 use answers::first_detail;
 use answers::number;
 use answers::second_detail;
@@ -66,16 +66,27 @@ pub fn put_unknown(out: &mut [u8], at: usize, position: u64, x: f64)
     out[at + 22] = 10;
 }
 
+// Puts the line `8F` at the start: 21 bytes.
+fn put_fields(out: &mut [u8], number: u64, first: u64, second: u64)
+    requires { ⌜ 21 ≤ length (now out) ⌝ }
+    ensures { λ _. ⌜ now (out .exit) ≡ placed (now (out .entry)) 0 (refusalLine number first second) ⌝ }
+{
+    put_hex(out, 0, 2, 0x8f);
+    put_hex(out, 2, 2, number);
+    put_hex(out, 4, 8, first);
+    put_hex(out, 12, 8, second);
+    out[20] = 10;
+}
+
 // Writes a refusal at the start, and says how many bytes it has: 21.
 pub fn put_refusal(out: &mut [u8], a: Answer) -> usize
     requires { ⌜ 21 ≤ length (now out) ⌝ }
     ensures { λ r. ⌜ (now (out .exit) ≡ placed (now (out .entry)) 0 (refusal a)) × (r ≡ length (refusal a)) ⌝ }
 {
-    put_hex(out, 0, 2, 0x8f);
-    put_hex(out, 2, 2, number(a) as u64);
-    put_hex(out, 4, 8, first_detail(a) as u64);
-    put_hex(out, 12, 8, second_detail(a) as u64);
-    out[20] = 10;
+    let k = number(a);
+    let first = first_detail(a);
+    let second = second_detail(a);
+    put_fields(out, k as u64, first as u64, second as u64);
     21
 }
 
