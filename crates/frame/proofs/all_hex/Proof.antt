@@ -1,4 +1,4 @@
--- `frame::all_hex` meets its contract: what is left of the list decides.
+-- `frame::all_hex` meets its contract: what is left of the list decides. Assumes nothing.
 use mathlib.Core.Path.{_≡_, sym, ap, refl, _∙_}
 use Prim.Native.Nat.{_≤_, _-_}
 use native.Mathlib.Omega.{arith}

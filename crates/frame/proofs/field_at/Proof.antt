@@ -1,4 +1,4 @@
--- `frame::field_at` meets its contract.
+-- `frame::field_at` meets its contract. Assumes nothing.
 use mathlib.Core.Path.{ap, _∙_}
 use Prim.Native.Nat.{ℕ}
 use native.Mathlib.Nat.{add-sub-cancel-left}

@@ -1,4 +1,4 @@
--- `frame::value` meets its contract: v and what is left write the number, and v has i digits.
+-- `frame::value` meets its contract: v and what is left write the number, and v has i digits. Assumes nothing.
 use mathlib.Core.Path.{_≡_, sym, _∙_}
 use Prim.Native.Nat.{ℕ, _≤_, _<_, _-_, _^_}
 use native.Mathlib.Omega.{arith}

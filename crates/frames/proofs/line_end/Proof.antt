@@ -1,4 +1,4 @@
--- `frames::line_end` meets its contract: no LF stands before i.
+-- `frames::line_end` meets its contract: no LF stands before i. Assumes nothing.
 use mathlib.Core.Path.{_≡_, refl}
 use Prim.Native.Nat.{_≤_, _-_, _+_}
 use native.Mathlib.Omega.{arith}

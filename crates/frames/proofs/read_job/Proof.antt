@@ -1,4 +1,4 @@
--- `frames::read_job` meets its contract: the areas are cleared, the text is scanned, and on a fault they are cleared again.
+-- `frames::read_job` meets its contract: the areas are cleared, the text is scanned, and on a fault they are cleared again. Assumes nothing.
 use mathlib.Core.Path.{_∙_}
 use denote.Ref.{now}
 use Rattle.frames.proofs.Going.{ready, read-whole, read-fault}

@@ -1,4 +1,4 @@
--- `frames::scan` meets its contract: the lines before line `line` are read, and what is left follows at `at`.
+-- `frames::scan` meets its contract: the lines before line `line` are read, and what is left follows at `at`. Assumes nothing.
 use Prim.Native.Nat.{_-_}
 use native.Mathlib.Omega.{arith}
 use lib.ListN.{length}

@@ -1,3 +1,4 @@
+-- `frames::side_ok` meets its contract: by the calls' results. Assumes nothing.
 use borrow.Author.Needs.{needs}
 use Rattle.frames.proofs.side_ok.Statement.{statement}
 use Rattle.frames.proofs.side_ok.Tie as tie

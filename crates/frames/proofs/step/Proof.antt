@@ -1,3 +1,4 @@
+-- `frames::step` meets its contract: by the line's frame. Assumes nothing.
 use Rattle.frames.proofs.Taken.{next-as, next-none}
 use Rattle.frames.specs.Held.{Small}
 use Rattle.frames.specs.declared.Progress.{Progress}

@@ -1,3 +1,4 @@
+-- `frames::take_begin` meets its contract: by the test. Assumes nothing.
 use Rattle.frames.proofs.Taken.{begin-yes, begin-no}
 use Rattle.frames.proofs.Forms.{begin-says}
 use Rattle.frames.specs.Held.{Small, After}

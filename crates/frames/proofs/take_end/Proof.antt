@@ -1,3 +1,4 @@
+-- `frames::take_end` meets its contract: by the test. Assumes nothing.
 use Rattle.frames.proofs.Taken.{end-yes, end-no}
 use Rattle.frames.specs.Held.{Small, After}
 use Rattle.frames.specs.declared.Progress.{Progress}

@@ -1,3 +1,4 @@
+-- `frames::take_side` meets its contract: by the test. Assumes nothing.
 use Rattle.frames.proofs.Taken.{side-yes, side-no}
 use Rattle.frames.proofs.Forms.{side-says}
 use Rattle.frames.specs.Held.{Small, After}

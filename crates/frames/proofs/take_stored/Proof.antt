@@ -1,3 +1,4 @@
+-- `frames::take_stored` meets its contract: by the test. Assumes nothing.
 use Rattle.frames.proofs.Taken.{stored-yes, stored-no}
 use Rattle.frames.proofs.Pad.{tail-filled}
 use Rattle.frames.proofs.Forms.{stored-says}
