@@ -23,7 +23,7 @@ use Rattle.statement.specs.Demands.{Names}
 use Rattle.laws.specs.Built.{Sound}
 use Rattle.laws.specs.Given.{First, WrongAt, BadStart, BadRows, Held, SizesGiven, AnalyseGiven, factored, order, stop, ran, Fails, Housed, Ordered, FactorGiven, Met, scratch, Sided, SolveGiven}
 use Rattle.laws.proofs.Listed.{order-given, least-fails, none-fails, order-exactly}
-use Rattle.laws.proofs.Input.{upper}
+use Rattle.laws.proofs.Analysed.{shape-n, ok}
 use Rattle.laws.proofs.FactorTree.{upper′}
 use Rattle.laws.proofs.Shapes.{shape-built}
 use Rattle.laws.proofs.Built.{sound}
@@ -174,16 +174,13 @@ analyse-given M cap r =
       others = rw is (others f (whole M cap early late none (idle [])) (0 ∷ 1 ∷ 2 ∷ 3 ∷ 4 ∷ 5 ∷ 6 ∷ []) tt);
     }
 
-shape-n : (M : Matrix) → analysis M .shape .n ≡ M .n
-unfolding analysis shapeOf
-shape-n M = refl
-
--- the structure of a well-formed matrix
-pub shape-sound : (M : Matrix) → WellFormed M → Sound (analysis M .shape)
+found-n : (M : Matrix) → analysis M .shape .n ≡ M .n
 unfolding analysis
-shape-sound M w =
-    let p = renumbered (M .n) (permutation (pattern M) (M .n)) (pattern M) in
-    sound (shapeOf p (M .n)) (shape-built p (M .n) (upper′ (pattern M) (M .n) (upper (M .n) (M .starts) (M .rows) (w .columns))))
+found-n M = shape-n M
+
+found-sound : (M : Matrix) → WellFormed M → Sound (analysis M .shape)
+unfolding analysis
+found-sound M w = ok M w
 
 module _ (M : Matrix) (cap : ℕ) (o : Order) (l : List ℕ) (e : Stop) (r : Room) where
   abbrev S : Shape
@@ -200,14 +197,14 @@ module _ (M : Matrix) (cap : ℕ) (o : Order) (l : List ℕ) (e : Stop) (r : Roo
 
   unfoldable tail : Stage (Housed M cap o l e r) rest (8 ∷ 9 ∷ []) (Ordered M cap o l e r × ((c : ℕ) → c < M .n → Fails M cap o l e r c → ⊥))
   tail =
-      chain (after (λ h. order-answers S (shape-sound M (h .0 .0 .0)) (order M cap o l e r) (stop M cap o l e r)))
+      chain (after (λ h. order-answers S (found-sound M (h .0 .0 .0)) (order M cap o l e r) (stop M cap o l e r)))
       (after (λ h. search-answers (Fails M cap o l e r) (M .n) (s .least) (least h) (before h) column-at))
     where
       ok : Ordered M cap o l e r → Sound S
-      ok h = shape-sound M (h .0 .0 .0 .0)
+      ok h = found-sound M (h .0 .0 .0 .0)
 
       least : Ordered M cap o l e r → s .least < M .n → Fails M cap o l e r (s .least)
-      least h u = unfold stopped in least-fails S (entryA M (analysis M .permutation)) (ok h) (order M cap o l e r) (h .1 .0) (stop M cap o l e r) (h .1 .1) (omega (arith, shape-n M))
+      least h u = unfold stopped in least-fails S (entryA M (analysis M .permutation)) (ok h) (order M cap o l e r) (h .1 .0) (stop M cap o l e r) (h .1 .1) (omega (arith, found-n M))
 
       before : Ordered M cap o l e r → (i : ℕ) → i < s .least → i < M .n → Fails M cap o l e r i → ⊥
       before h i u _ = unfold stopped in none-fails S (entryA M (analysis M .permutation)) (ok h) (order M cap o l e r) (h .1 .0) (stop M cap o l e r) (h .1 .1) i u

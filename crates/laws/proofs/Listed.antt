@@ -17,7 +17,7 @@ use Rattle.statement.specs.Demands.{Names}
 use Rattle.laws.specs.Built.{Sound}
 use Rattle.laws.specs.Given.{First, Before, BadEntry, WrongAt}
 use Rattle.laws.proofs.Order.{named, fails, leastOf, leastOf-le}
-use Rattle.laws.proofs.Demand.{inv, leastOf-mem}
+use Rattle.laws.proofs.Demand.{inv, leastOf-mem, ready-reads}
 use Rattle.laws.proofs.Names.{names-good, in-order}
 use Rattle.laws.proofs.Bools.{or-cases, or-left, or-right, eqb-of, T-dec, T-true, le-or-lt, and-l, and-r}
 use Rattle.laws.proofs.Stages.{eqb-reads, nltb-reads, some-none, Found, found-same, found-step, inside}
@@ -59,41 +59,6 @@ unfolding has
 before-reads x r k h = let s = seen-reads x [] r k h in (λ t. ⊎-elim (λ u. absurd u) (λ z. z) (s .0 t), λ z. s .1 (inr z))
 
 module _ (S : Shape) where
-  -- one of J's children below M is not on the list
-  ready-reads : (l : List ℕ) (J M : ℕ) → T (not (ready S l J M)) ↔ ((K : ℕ) × (K < M) × (parentOf S K ≡ J) × T (not (has K l)))
-  unfolding ready
-  ready-reads l J zero = (λ t. absurd t, λ z. absurd (not-suc-le-zero (z .1)))
-  ready-reads l J (suc M) = (
-    λ t. ⊎-elim
-        (λ u. let z = ready-reads l J M .0 u in (z .0, omega (arith, z .1), z .2, z .3))
-        (λ u. let z = missing (eqb (parentOf S M) J) (has M l) u in (M, le-refl (suc M), eqb→eq (parentOf S M) J (z .0), z .1))
-        (nand (ready S l J M) _ t),
-    λ z. ⊎-elim
-        (λ (e : z .0 ≡ M). nand-right (ready S l J M) _ (found (eqb (parentOf S M) J) (has M l) (rw (← e) (eqb-of (z .2))) (rw (← e) (z .3))))
-        (λ (u : z .0 < M). nand-left (ready S l J M) _ (ready-reads l J M .1 (z .0, u, z .2, z .3)))
-        (eq-or-lt-of-le (let u : z .0 ≤ M = omega (arith, z .1) in u)),
-  )
-    where
-      nand : (a b : Bool) → T (not (a && b)) → T (not a) ⊎ T (not b)
-      nand true b t = inr t
-      nand false b t = inl tt
-
-      nand-left : (a b : Bool) → T (not a) → T (not (a && b))
-      nand-left true b t = absurd t
-      nand-left false b t = tt
-
-      nand-right : (a b : Bool) → T (not b) → T (not (a && b))
-      nand-right true b t = t
-      nand-right false b t = tt
-
-      missing : (a b : Bool) → T (not (not a || b)) → T a × T (not b)
-      missing true b t = (tt, t)
-      missing false b t = absurd t
-
-      found : (a b : Bool) → T a → T (not b) → T (not (not a || b))
-      found true b t u = u
-      found false b t u = absurd t
-
   unfoldable good : List ℕ → ℕ → Bool
   good a J = ltb J (supernodes S) && not (has J a) && ready S a J J
 
@@ -127,13 +92,13 @@ module _ (S : Shape) where
       λ t. ⊎-elim
           (λ u. inl (nltb→le J (supernodes S) u))
           (⊎-elim (λ u. inr (inl (on J .0 u))) (λ u.
-          let z = ready-reads (seen [] l k) J J .0 (u .1) in
+          let z = ready-reads S (seen [] l k) J J .0 (u .1) in
           inr (inr (z .0, omega (arith, z .1, ltb→lt J (supernodes S) (u .0)), z .2, λ b. T-not (has (z .0) (seen [] l k)) (z .3) (on (z .0) .1 b)))))
           (parts (ltb J (supernodes S)) (has J (seen [] l k)) (ready S (seen [] l k) J J) .0 t),
       λ b. parts (ltb J (supernodes S)) (has J (seen [] l k)) (ready S (seen [] l k) J J) .1 (⊎-elim
           (λ u. inl (nltb-reads J (supernodes S) .1 u))
           (⊎-elim (λ u. inr (inl (on J .1 u))) (λ z. ⊎-elim
-          (λ u. inr (inr (u, ready-reads (seen [] l k) J J .1 (z .0, omega (arith, up (z .0) (z .1), z .2), z .2, not-T (has (z .0) (seen [] l k)) (λ t. z .3 (on (z .0) .0 t))))))
+          (λ u. inr (inr (u, ready-reads S (seen [] l k) J J .1 (z .0, omega (arith, up (z .0) (z .1), z .2), z .2, not-T (has (z .0) (seen [] l k)) (λ t. z .3 (on (z .0) .0 t))))))
           inl (T-dec (ltb J (supernodes S)))))
           b),
     )
