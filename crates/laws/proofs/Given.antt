@@ -10,10 +10,9 @@ use lib.Dec.{T, ltb, eqb}
 use lib.ListN.{length, getD}
 use lib.Ieee.{Float}
 use Rattle.statement.specs.Lists.{has, least}
-use Rattle.statement.specs.Input.{Matrix, WellFormed, columnsLimit, rowsLimit, rowsLength, column, pattern, wrongStart, goodRows}
-use Rattle.statement.specs.Postorder.{permutation, toOriginal, renumbered}
+use Rattle.statement.specs.Input.{Matrix, WellFormed, columnsLimit, rowsLimit, rowsLength, column, wrongStart, goodRows}
+use Rattle.statement.specs.Postorder.{permutation, toOriginal}
 use Rattle.statement.specs.Shape.{Shape, supernodes}
-use Rattle.statement.specs.Supernodes.{shapeOf}
 use Rattle.statement.specs.Run.{State, orderFault}
 use Rattle.statement.specs.Answers.{number, test, orElse, answered}
 use Rattle.statement.specs.Areas.{Areas, Need, needs, short}
@@ -24,9 +23,6 @@ use Rattle.laws.specs.Built.{Sound}
 use Rattle.laws.specs.Given.{First, WrongAt, BadStart, BadRows, Held, SizesGiven, AnalyseGiven, factored, order, stop, ran, Fails, Housed, Ordered, FactorGiven, Met, scratch, Sided, SolveGiven}
 use Rattle.laws.proofs.Listed.{order-given, least-fails, none-fails, order-exactly}
 use Rattle.laws.proofs.Analysed.{shape-n, ok}
-use Rattle.laws.proofs.FactorTree.{upper′}
-use Rattle.laws.proofs.Shapes.{shape-built}
-use Rattle.laws.proofs.Built.{sound}
 use Rattle.laws.proofs.Faults.{no-fault, good-of}
 use Rattle.laws.proofs.Exactly.{good-to, well-of, structure-never}
 use Rattle.laws.proofs.Bools.{T-true, T-false}
@@ -161,6 +157,10 @@ settled-answer r (some a) R X = refl
 others : {Q : Type 0} {ns : List ℕ} (f : Option Answer) → Stage Unit f ns Q → (ms : List ℕ) → T (inside (0 ∷ ns) ms) → has (number (answered f)) ms ≡ true
 others {ns} f s ms t = T-true _ (has-inside (number (answered f)) (0 ∷ ns) ms t (reply-number f s))
 
+pub analyse-passed : (M : Matrix) (cap : ℕ) (r : Room) → analyseFault M cap r (analysis M) ≡ none → Held M cap (needs (M .n) (rowsLength M) r) (later (analysis M) r)
+unfolding analyseFault
+analyse-passed M cap r p = whole M cap (needs (M .n) (rowsLength M) r) (later (analysis M) r) none (idle []) .passed .0 (tt, p)
+
 pub analyse-given : (M : Matrix) (cap : ℕ) (r : Room) → AnalyseGiven M cap r
 unfolding analyse analyseFault has inside
 analyse-given M cap r =
@@ -208,6 +208,10 @@ module _ (M : Matrix) (cap : ℕ) (o : Order) (l : List ℕ) (e : Stop) (r : Roo
 
       before : Ordered M cap o l e r → (i : ℕ) → i < s .least → i < M .n → Fails M cap o l e r i → ⊥
       before h i u _ = unfold stopped in none-fails S (entryA M (analysis M .permutation)) (ok h) (order M cap o l e r) (h .1 .0) (stop M cap o l e r) (h .1 .1) i u
+
+  pub factor-passed : factorFault M cap o l (stop M cap o l e r) r (analysis M) s ≡ none → Ordered M cap o l e r
+  unfolding factorFault
+  factor-passed p = whole M cap (factorNeeds M r) (factorLater (analysis M) r) rest tail .passed .0 (tt, p) .0
 
   pub factor-given : FactorGiven M cap o l e r
   unfolding factor factorFault has inside whole tail

@@ -6,7 +6,7 @@ use mathlib.Core.List.{List, [], _∷_}
 use mathlib.Core.Option.{none, some}
 use Prim.Native.Nat.{ℕ, zero, suc, _+_, _≤_, _<_, min}
 use native.Mathlib.Omega.{arith}
-use native.Mathlib.Nat.{le-refl, not-suc-le-zero, eq-or-lt-of-le}
+use native.Mathlib.Nat.{not-suc-le-zero}
 use lib.Dec.{T, T-not, not-T, ltb, eqb, leb, eqb→eq, eqb-refl, leb→le, le→leb, ltb→lt, nltb→le}
 use lib.ListN.{length, getD, take}
 use lib.Ieee.{Float}

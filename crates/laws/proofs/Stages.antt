@@ -265,7 +265,7 @@ unfolding short
 short-given [] x = (λ e. absurd (some-none (sym e)), λ h. absurd (not-suc-le-zero (h .1 .below)))
 short-given (y ∷ l) x = found-step (Short (y ∷ l)) (length l) (named (y ∷ l)) (named l) x (ltb (y .length) (y .need)) (short l) (ltb-reads (y .length) (y .need)) (λ i. refl) (short-given l x)
 
-short-passed : (l : List Need) → (short l ≡ none) ↔ Met l
+pub short-passed : (l : List Need) → (short l ≡ none) ↔ Met l
 unfolding short
 short-passed [] = (λ e k h. absurd (not-suc-le-zero h), λ h. refl)
 short-passed (y ∷ l) = go (ltb (y .length) (y .need)) refl (short-passed l)
