@@ -1,16 +1,16 @@
 -- A number is given exactly when the table says so: analyse, factor and solve. Assumes nothing.
 use mathlib.Core.Path.{_≡_, refl, sym, ap, _∙_}
 use mathlib.Core.Logic.{_≢_, _↔_, Iff·rfl, Iff·trans, Iff·and}
-use mathlib.Core.Bool.{Bool, true, false, cond, not, _&&_, _||_}
+use mathlib.Core.Bool.{Bool, true, false, cond, not}
 use mathlib.Core.List.{List, [], _∷_}
 use mathlib.Core.Option.{Option, none, some}
-use Prim.Native.Nat.{ℕ, suc, _-_, _≤_, _<_}
+use Prim.Native.Nat.{ℕ, suc, _≤_, _<_}
 use native.Mathlib.Omega.{arith}
-use lib.Dec.{T, ltb, eqb}
-use lib.ListN.{length, getD}
+use lib.Dec.{T, ltb}
+use lib.ListN.{length}
 use lib.Ieee.{Float}
 use Rattle.statement.specs.Lists.{has, least}
-use Rattle.statement.specs.Input.{Matrix, WellFormed, columnsLimit, rowsLimit, rowsLength, column, wrongStart, goodRows}
+use Rattle.statement.specs.Input.{Matrix, WellFormed, rowsLength}
 use Rattle.statement.specs.Postorder.{permutation, toOriginal}
 use Rattle.statement.specs.Shape.{Shape, supernodes}
 use Rattle.statement.specs.Run.{State, orderFault}
@@ -23,10 +23,10 @@ use Rattle.laws.specs.Built.{Sound}
 use Rattle.laws.specs.Given.{First, WrongAt, BadStart, BadRows, Held, SizesGiven, AnalyseGiven, factored, order, stop, ran, Fails, Housed, Ordered, FactorGiven, Met, scratch, Sided, SolveGiven}
 use Rattle.laws.proofs.Listed.{order-given, least-fails, none-fails, order-exactly}
 use Rattle.laws.proofs.Analysed.{shape-n, ok}
-use Rattle.laws.proofs.Faults.{no-fault, good-of}
-use Rattle.laws.proofs.Exactly.{good-to, well-of, structure-never}
+use Rattle.laws.proofs.Faults.{unequal, above, input}
+use Rattle.laws.proofs.Exactly.{structure-never}
 use Rattle.laws.proofs.Bools.{T-true, T-false}
-use Rattle.laws.proofs.Stages.{or-reads, and-reads, not-reads, not-not-reads, nor-reads, eqb-reads, ltb-reads, nltb-reads, some-none, Stage, chain, renamed, testing, Answers, opening, after, number-has, test-answers, search-answers, least-answers, short-answers, lowest, named-is, or-iff, reply, reply-accepted, reply-number, inside, has-inside}
+use Rattle.laws.proofs.Stages.{not-not-reads, some-none, Stage, chain, renamed, testing, Answers, opening, after, number-has, test-answers, search-answers, short-answers, lowest, named-is, or-iff, reply, reply-accepted, reply-number, inside, has-inside}
 use Rattle.statement.specs.declared.Original.{Original}
 use Rattle.statement.specs.declared.Record.{Record}
 use Rattle.statement.specs.declared.Order.{Order}
@@ -52,39 +52,6 @@ order-answers S ok l t = record {
   passed = Iff·trans (position-none (orderFault S l t)) (order-exactly S (ok .up) l t);
   numbers = λ x z. number-has (WrongOrder (z .0)) x (z .2);
 }
-
--- ---- numbers 1 to 4
-
-start-reads : (M : Matrix) (p : ℕ) → T (wrongStart M p) ↔ BadStart M p
-unfolding wrongStart
-start-reads M p =
-    let s = getD (M .starts) p 0 in
-    or-reads (eqb p 0 && not (eqb s 0)) _ (and-reads (eqb p 0) (not (eqb s 0)) (eqb-reads p 0) (not-reads (eqb s 0) (eqb-reads s 0)))
-    (or-reads (ltb 0 p && ltb s (getD (M .starts) (p - 1) 0)) _ (and-reads (ltb 0 p) _ (ltb-reads 0 p) (ltb-reads s (getD (M .starts) (p - 1) 0)))
-    (and-reads (eqb p (M .n)) (not (eqb s (rowsLength M))) (eqb-reads p (M .n)) (not-reads (eqb s (rowsLength M)) (eqb-reads s (rowsLength M)))))
-
-rows-read : (M : Matrix) (k : ℕ) → T (not (goodRows k (column (M .starts) (M .rows) k))) ↔ BadRows M k
-rows-read M k = let l = column (M .starts) (M .rows) k in not-reads (goodRows k l) (good-to k l, λ h. good-of k l (h .0) (h .1))
-
-unequal : (m n : ℕ) (a : Answer) → Answers (test (not (eqb m n)) a none) (number a ∷ []) (λ x. (m ≢ n) × (x ≡ a)) (m ≡ n)
-unequal m n a = test-answers (not (eqb m n)) a (not-reads (eqb m n) (eqb-reads m n)) (not-not-reads (eqb m n) (eqb-reads m n))
-
-above : (m n : ℕ) (a : Answer) → Answers (test (ltb m n) a none) (number a ∷ []) (λ x. (m < n) × (x ≡ a)) (n ≤ m)
-above m n a = test-answers (ltb m n) a (ltb-reads m n) (nltb-reads m n)
-
-unfoldable input : (M : Matrix) → Stage Unit (inputFault M) (1 ∷ 2 ∷ 2 ∷ 3 ∷ 4 ∷ []) (WellFormed M)
-unfolding inputFault
-input M =
-    let n = M .n in
-    let a = rowsLength M in
-    let s = testing _ _ (opening (test-answers (ltb columnsLimit n || ltb rowsLimit a) OverLimit
-    (or-reads (ltb columnsLimit n) (ltb rowsLimit a) (ltb-reads columnsLimit n) (ltb-reads rowsLimit a))
-    (nor-reads (ltb columnsLimit n) (ltb rowsLimit a) (nltb-reads columnsLimit n) (nltb-reads rowsLimit a))))
-    (testing _ _ (after (λ _. unequal (length (M .starts)) (suc n) (WrongLengths 1)))
-    (testing _ _ (after (λ _. unequal (length (M .rows)) (length (M .values)) (WrongLengths 2)))
-    (testing _ _ (after (λ _. least-answers (wrongStart M) (BadStart M) (start-reads M) (suc n) (λ p. WrongStarts p)))
-    (after (λ _. least-answers (λ k. not (goodRows k (column (M .starts) (M .rows) k))) (BadRows M) (rows-read M) n (λ k. WrongColumn (record { 0 = k }))))))) in
-    record { When = s .When; given = s .given; passed = (λ h. well-of M (h .1), λ w. (tt, no-fault M w)); numbers = s .numbers }
 
 -- ---- numbers 5, 6 and 12, and what comes after
 
