@@ -25,8 +25,8 @@ use Rattle.laws.proofs.Listed.{order-given, least-fails, none-fails, or
 use Rattle.laws.proofs.Analysed.{shape-n, ok}
 use Rattle.laws.proofs.Faults.{unequal, above, input}
 use Rattle.laws.proofs.Exactly.{structure-never}
-use Rattle.laws.proofs.Bools.{T-true, T-false}
-use Rattle.laws.proofs.Stages.{not-not-reads, some-none, Stage, chain, renamed, testing, Answers, opening, after, number-has, test-answers, search-answers, short-answers, lowest, named-is, or-iff, reply, reply-accepted, reply-number, inside, has-inside}
+use Rattle.laws.proofs.Bools.{T-true, T-false, not-not-reads}
+use Rattle.laws.proofs.Stages.{some-none, Stage, chain, renamed, testing, Answers, opening, after, number-has, test-answers, search-answers, short-answers, lowest, named-is, or-iff, reply, reply-accepted, reply-number, inside, has-inside}
 use Rattle.statement.specs.declared.Original.{Original}
 use Rattle.statement.specs.declared.Record.{Record}
 use Rattle.statement.specs.declared.Order.{Order}

@@ -19,8 +19,8 @@ use Rattle.laws.specs.Given.{First, Before, BadEntry, WrongAt}
 use Rattle.laws.proofs.Order.{named, fails, leastOf, leastOf-le}
 use Rattle.laws.proofs.Demand.{inv, leastOf-mem, ready-reads}
 use Rattle.laws.proofs.Names.{names-good, in-order}
-use Rattle.laws.proofs.Bools.{or-cases, or-left, or-right, eqb-of, T-dec, T-true, le-or-lt, and-l, and-r}
-use Rattle.laws.proofs.Stages.{eqb-reads, nltb-reads, some-none, Found, found-same, found-step, inside}
+use Rattle.laws.proofs.Bools.{or-cases, or-left, or-right, eqb-of, T-dec, T-true, le-or-lt, and-l, and-r, eqb-reads, nltb-reads}
+use Rattle.laws.proofs.Stages.{some-none, Found, found-same, found-step, inside}
 use borrow.Author.Tests.{eqb-true, leb-true}
 
 -- ---- number 8
