@@ -12,10 +12,11 @@ use lib.ListN.{length, getD, take}
 use lib.Ieee.{Float}
 use Rattle.statement.specs.Lists.{has, least}
 use Rattle.statement.specs.Shape.{Shape, supernodes, parentOf}
-use Rattle.statement.specs.Run.{State, start, Fate, done, failed, skipped, fate, run, ready, firstBad, orderFault}
-use Rattle.statement.specs.Demands.{Names}
+use Rattle.statement.specs.Run.{State, start, Fate, done, failed, skipped, fate, run, ready, firstBad, orderFault, blocked}
+use Rattle.statement.specs.Demands.{Names, Breaks}
 use Rattle.laws.specs.Built.{Sound}
 use Rattle.laws.specs.Given.{First, Before, BadEntry, WrongAt}
+use Rattle.laws.proofs.Fails.{fails-exactly}
 use Rattle.laws.proofs.Order.{named, fails, leastOf, leastOf-le}
 use Rattle.laws.proofs.Demand.{inv, leastOf-mem, ready-reads}
 use Rattle.laws.proofs.Names.{names-good, in-order}
@@ -184,7 +185,7 @@ module _ (S : Shape) (A : ℕ → ℕ → Float) (ok : Sound S) (l : List ℕ) (
   end = run S A (start S) (take t l)
 
   abbrev pub Failing : ℕ → Type 0
-  Failing c = (K : ℕ) × Before l t K × (fate S A end K ≡ failed c)
+  Failing c = (K : ℕ) × Before l t K × (blocked S (end .halted) K K ≡ false) × Breaks S A (end .values) K c
 
   low : end .least ≡ leastOf (S .n) (fate S A end) (seen [] l t)
   low = inv S A ok l (names-good S (ok .up) l m) t .low
@@ -192,7 +193,8 @@ module _ (S : Shape) (A : ℕ → ℕ → Float) (ok : Sound S) (l : List ℕ) (
   pub least-fails : end .least < S .n → Failing (end .least)
   least-fails u =
       let z = least-failed (S .n) (fate S A end) (seen [] l t) (omega (arith, low)) in
-      (z .0, before-reads (z .0) l t (omega (arith, m .all)) .0 (z .1), z .2 ∙ ap failed (sym low))
+      let x = fails-exactly S A end (z .0) (end .least) .0 (z .2 ∙ ap failed (sym low)) in
+      (z .0, before-reads (z .0) l t (omega (arith, m .all)) .0 (z .1), x .0, x .1)
 
   pub none-fails : (c : ℕ) → c < end .least → Failing c → ⊥
-  none-fails c u z = absurd (omega (arith, low, rw (z .2) at (leastOf-mem (S .n) (fate S A end) (seen [] l t) (z .0) (T-true _ (before-reads (z .0) l t (omega (arith, m .all)) .1 (z .1))))))
+  none-fails c u z = absurd (omega (arith, low, rw (fails-exactly S A end (z .0) c .1 (z .2, z .3)) at (leastOf-mem (S .n) (fate S A end) (seen [] l t) (z .0) (T-true _ (before-reads (z .0) l t (omega (arith, m .all)) .1 (z .1))))))

@@ -11,12 +11,12 @@ use Rattle.statement.specs.Lists.{has}
 use Rattle.statement.specs.Input.{Matrix, WellFormed, columnsLimit, rowsLimit, rowsLength, column}
 use Rattle.statement.specs.Postorder.{toOriginal}
 use Rattle.statement.specs.Shape.{Shape, supernodes, parentOf}
-use Rattle.statement.specs.Run.{State, failed, fate}
+use Rattle.statement.specs.Run.{State, blocked}
 use Rattle.statement.specs.Answers.{number}
 use Rattle.statement.specs.Areas.{Need, needs}
 use Rattle.statement.specs.Calls.{Analysis, analysis, entryA, later, analyse, factorNeeds, factorLater, orderOf, stopOf, stopped, factor}
 use Rattle.statement.specs.Solve.{FactorAreas, solvable, solve}
-use Rattle.statement.specs.Demands.{Names}
+use Rattle.statement.specs.Demands.{Names, Breaks}
 use Rattle.statement.specs.declared.Original.{Original}
 use Rattle.statement.specs.declared.Answer.{Answer}
 use Rattle.statement.specs.declared.Answer.the-variants.{Accepted, OverLimit, WrongLengths, WrongStarts, WrongColumn, ShortArea, OverCap, WrongOrder, WrongPivot, WrongSide, NoFactor}
@@ -143,9 +143,9 @@ module _ (M : Matrix) (cap : ℕ) (o : Order) (l : List ℕ) (e : Stop) (r : Roo
   abbrev pub ran : State
   ran = stopped M X o l stop
 
-  -- column c fails within the first t: a supernode named there, none of whose children is halted, breaks the rule at c
+  -- column c fails within the first t: its supernode is named there, none of its children is halted, and the pivot breaks the rule
   abbrev pub Fails : ℕ → Type 0
-  Fails c = (K : ℕ) × Before order stop K × (fate (X .shape) (entryA M (X .permutation)) ran K ≡ failed c)
+  Fails c = (K : ℕ) × Before order stop K × (blocked (X .shape) (ran .halted) K K ≡ false) × Breaks (X .shape) (entryA M (X .permutation)) (ran .values) K c
 
   abbrev pub Housed : Type 0
   Housed = Held M cap (factorNeeds M r) (factorLater X r)
