@@ -9,9 +9,9 @@ use native.Mathlib.Omega.{arith}
 use lib.Dec.{T, ltb}
 use lib.ListN.{length}
 use lib.Ieee.{Float}
-use Rattle.statement.specs.Lists.{has, least}
+use Rattle.statement.specs.Lists.{has}
 use Rattle.statement.specs.Input.{Matrix, WellFormed, rowsLength}
-use Rattle.statement.specs.Postorder.{permutation, toOriginal}
+use Rattle.statement.specs.Postorder.{toOriginal}
 use Rattle.statement.specs.Shape.{Shape, supernodes}
 use Rattle.statement.specs.Run.{State, orderFault}
 use Rattle.statement.specs.Answers.{number, test, orElse, answered}
@@ -20,7 +20,7 @@ use Rattle.statement.specs.Calls.{Analysis, analysis, entryA, inputFault, settl
 use Rattle.statement.specs.Solve.{FactorAreas, shapeIn, solvable, solution, solveFault, solved, solve}
 use Rattle.statement.specs.Demands.{Names}
 use Rattle.laws.specs.Built.{Sound}
-use Rattle.laws.specs.Given.{First, WrongAt, BadStart, BadRows, Held, SizesGiven, AnalyseGiven, factored, order, stop, ran, Fails, Housed, Ordered, FactorGiven, Met, scratch, Sided, SolveGiven}
+use Rattle.laws.specs.Given.{First, analyseNumbers, factorNumbers, solveNumbers, WrongAt, BadStart, BadRows, Held, SizesGiven, AnalyseGiven, factored, order, stop, ran, Fails, Housed, Ordered, FactorGiven, Met, scratch, Sided, SolveGiven}
 use Rattle.laws.proofs.Listed.{order-given, least-fails, none-fails, order-exactly}
 use Rattle.laws.proofs.Analysed.{shape-n, ok}
 use Rattle.laws.proofs.Faults.{unequal, above, input}
@@ -138,7 +138,7 @@ analyse-given M cap r =
     record {
       sizes = sizes-given M cap early late none (idle (8 ∷ 9 ∷ [])) (analyse M cap r .returned .answer) is;
       accepted = rw is (reply-accepted f (whole M cap early late none (idle [])) tt);
-      others = rw is (others f (whole M cap early late none (idle [])) (0 ∷ 1 ∷ 2 ∷ 3 ∷ 4 ∷ 5 ∷ 6 ∷ []) tt);
+      others = rw is (others f (whole M cap early late none (idle [])) analyseNumbers tt);
     }
 
 found-n : (M : Matrix) → analysis M .shape .n ≡ M .n
@@ -193,7 +193,7 @@ module _ (M : Matrix) (cap : ℕ) (o : Order) (l : List ℕ) (e : Stop) (r : Roo
         wrongOrder = λ p. Iff·trans (says (WrongOrder p) (λ e. omega arith)) (Iff·and Iff·rfl (named-is (WrongAt S (order M cap o l e r) (stop M cap o l e r)) (λ p. WrongOrder p) (λ i j e. cc) p));
         wrongPivot = λ k. Iff·trans (says (WrongPivot k) (λ e. omega arith)) (Iff·and Iff·rfl (λ z. (z .0, z .1, pivot k _ (z .2)), λ z. (z .0, z .1, ap WrongPivot (z .2))));
         accepted = rw is (reply-accepted f (whole M cap early late rest tail) tt);
-        others = rw is (others f (whole M cap early late rest tail) (0 ∷ 1 ∷ 2 ∷ 3 ∷ 4 ∷ 5 ∷ 6 ∷ 8 ∷ 9 ∷ []) tt);
+        others = rw is (others f (whole M cap early late rest tail) factorNumbers tt);
       }
     where
       pivot : (i j : Original) → WrongPivot i ≡ WrongPivot j → i ≡ j
@@ -235,5 +235,5 @@ module _ (R : Record) (fa : FactorAreas) (b : List Float) (words floats : ℕ) w
         wrongSide = λ x. Iff·trans (says (WrongSide x) (λ e. omega arith)) (Iff·and Iff·rfl (Iff·and Iff·rfl (λ e. cc, λ e. ap WrongSide e)));
         shortArea = λ a d. Iff·trans (says (ShortArea a d) (λ e. omega arith)) (Iff·and Iff·rfl (lowest (scratch R fa b words floats) a d));
         accepted = rw solve-is (reply-accepted f solving tt);
-        others = rw solve-is (others f solving (0 ∷ 5 ∷ 10 ∷ 11 ∷ []) tt);
+        others = rw solve-is (others f solving solveNumbers tt);
       }

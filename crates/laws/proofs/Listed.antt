@@ -10,6 +10,7 @@ use native.Mathlib.Nat.{not-suc-le-zero}
 use lib.Dec.{T, T-not, not-T, ltb, eqb, leb, eqb→eq, eqb-refl, leb→le, le→leb, ltb→lt, nltb→le}
 use lib.ListN.{length, getD, take}
 use lib.Ieee.{Float}
+use borrow.Author.Tests.{eqb-true, leb-true}
 use Rattle.statement.specs.Lists.{has, least}
 use Rattle.statement.specs.Shape.{Shape, supernodes, parentOf}
 use Rattle.statement.specs.Run.{State, start, Fate, done, failed, skipped, fate, run, ready, firstBad, orderFault, blocked}
@@ -21,8 +22,7 @@ use Rattle.laws.proofs.Order.{named, fails, leastOf, leastOf-le}
 use Rattle.laws.proofs.Demand.{inv, leastOf-mem, ready-reads}
 use Rattle.laws.proofs.Names.{names-good, in-order}
 use Rattle.laws.proofs.Bools.{or-cases, or-left, or-right, eqb-of, T-dec, T-true, le-or-lt, and-l, and-r, eqb-reads, nltb-reads}
-use Rattle.laws.proofs.Stages.{some-none, Found, found-same, found-step, inside}
-use borrow.Author.Tests.{eqb-true, leb-true}
+use Rattle.laws.proofs.Stages.{some-none, Found, found-same, found-step}
 
 -- ---- number 8
 

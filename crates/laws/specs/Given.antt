@@ -116,7 +116,17 @@ module _ (S : Shape) (l : List ℕ) where
       (((length l ≢ supernodes S) ⊎ (supernodes S < t)) × (p ≡ supernodes S)) ⊎
       (((length l ≡ supernodes S) × (t ≤ supernodes S)) × First BadEntry (length l) p)
 
--- ---- the calls; `others`: no number off the list is given, so 12 never
+-- ---- the calls
+
+-- the numbers that each can answer: 12 never
+abbrev pub analyseNumbers : List ℕ
+analyseNumbers = 0 ∷ 1 ∷ 2 ∷ 3 ∷ 4 ∷ 5 ∷ 6 ∷ []
+
+abbrev pub factorNumbers : List ℕ
+factorNumbers = 0 ∷ 1 ∷ 2 ∷ 3 ∷ 4 ∷ 5 ∷ 6 ∷ 8 ∷ 9 ∷ []
+
+abbrev pub solveNumbers : List ℕ
+solveNumbers = 0 ∷ 5 ∷ 10 ∷ 11 ∷ []
 
 module _ (M : Matrix) (cap : ℕ) (r : Room) where
   abbrev pub analysed : Answer
@@ -125,7 +135,7 @@ module _ (M : Matrix) (cap : ℕ) (r : Room) where
   pub record AnalyseGiven : Type 0 where
     pub sizes : SizesGiven M cap (needs (M .n) (rowsLength M) r) (later (analysis M) r) analysed
     pub accepted : (analysed ≡ Accepted) ↔ Held M cap (needs (M .n) (rowsLength M) r) (later (analysis M) r)
-    pub others : has (number analysed) (0 ∷ 1 ∷ 2 ∷ 3 ∷ 4 ∷ 5 ∷ 6 ∷ []) ≡ true
+    pub others : has (number analysed) analyseNumbers ≡ true
 
 module _ (M : Matrix) (cap : ℕ) (o : Order) (l : List ℕ) (e : Stop) (r : Room) where
   abbrev pub factored : Answer
@@ -158,7 +168,7 @@ module _ (M : Matrix) (cap : ℕ) (o : Order) (l : List ℕ) (e : Stop) (r : Roo
     pub wrongOrder : (p : ℕ) → (factored ≡ WrongOrder p) ↔ (Housed × WrongAt (X .shape) order stop p)
     pub wrongPivot : (k : Original) → (factored ≡ WrongPivot k) ↔ (Ordered × ((c : ℕ) × First Fails (M .n) c × (k ≡ toOriginal (X .permutation) (record { 0 = c }))))
     pub accepted : (factored ≡ Accepted) ↔ (Ordered × ((c : ℕ) → c < M .n → Fails c → ⊥))
-    pub others : has (number factored) (0 ∷ 1 ∷ 2 ∷ 3 ∷ 4 ∷ 5 ∷ 6 ∷ 8 ∷ 9 ∷ []) ≡ true
+    pub others : has (number factored) factorNumbers ≡ true
 
 module _ (R : Record) (f : FactorAreas) (b : List Float) (words floats : ℕ) where
   abbrev pub solved : Answer
@@ -176,4 +186,4 @@ module _ (R : Record) (f : FactorAreas) (b : List Float) (words floats : ℕ) wh
     pub wrongSide : (x : ℕ) → (solved ≡ WrongSide x) ↔ ((solvable R f ≡ true) × ((length b ≢ R .n) × (x ≡ length b)))
     pub shortArea : (a d : ℕ) → (solved ≡ ShortArea a d) ↔ (Sided × Lowest scratch a d)
     pub accepted : (solved ≡ Accepted) ↔ (Sided × Met scratch)
-    pub others : has (number solved) (0 ∷ 5 ∷ 10 ∷ 11 ∷ []) ≡ true
+    pub others : has (number solved) solveNumbers ≡ true
