@@ -1,39 +1,32 @@
 -- A number is given exactly when the table says so: analyse, factor and solve. Assumes nothing.
 use mathlib.Core.Path.{_≡_, refl, sym, ap, _∙_}
-use mathlib.Core.Logic.{_⊎_, inl, inr, ⊎-elim, _≢_, _↔_, Iff·rfl, Iff·trans, Iff·and}
-use mathlib.Core.Bool.{Bool, true, false, cond, not, _&&_, _||_}
+use mathlib.Core.Logic.{_≢_, _↔_, Iff·rfl, Iff·trans, Iff·and}
+use mathlib.Core.Bool.{Bool, true, false, cond, not}
 use mathlib.Core.List.{List, [], _∷_}
 use mathlib.Core.Option.{Option, none, some}
-use Prim.Native.Nat.{ℕ, zero, suc, _+_, _-_, _≤_, _<_, min}
+use Prim.Native.Nat.{ℕ, suc, _≤_, _<_}
 use native.Mathlib.Omega.{arith}
-use native.Mathlib.Nat.{le-refl, not-suc-le-zero, eq-or-lt-of-le}
-use lib.Dec.{T, T-not, not-T, ltb, eqb, leb, eqb→eq, eqb-refl, leb→le, le→leb, ltb→lt, nltb→le}
-use lib.ListN.{length, getD, take}
+use lib.Dec.{T, ltb}
+use lib.ListN.{length}
 use lib.Ieee.{Float}
-use Rattle.statement.specs.Lists.{has, least}
-use Rattle.statement.specs.Input.{Matrix, WellFormed, columnsLimit, rowsLimit, rowsLength, column, pattern, wrongStart, goodRows, +0}
-use Rattle.statement.specs.Postorder.{permutation, toOriginal, renumbered}
-use Rattle.statement.specs.Shape.{Shape, supernodes, parentOf}
-use Rattle.statement.specs.Supernodes.{shapeOf}
-use Rattle.statement.specs.Run.{State, start, Fate, done, failed, skipped, fate, run, ready, firstBad, orderFault}
+use Rattle.statement.specs.Lists.{has}
+use Rattle.statement.specs.Input.{Matrix, WellFormed, rowsLength}
+use Rattle.statement.specs.Postorder.{toOriginal}
+use Rattle.statement.specs.Shape.{Shape, supernodes}
+use Rattle.statement.specs.Run.{State, orderFault}
 use Rattle.statement.specs.Answers.{number, test, orElse, answered}
 use Rattle.statement.specs.Areas.{Areas, Need, needs, short}
 use Rattle.statement.specs.Calls.{Analysis, analysis, entryA, inputFault, settled, later, structureRoom, analyseFault, analyse, wrongPosition, stopped, factorNeeds, factorLater, factorFault, factor}
 use Rattle.statement.specs.Solve.{FactorAreas, shapeIn, solvable, solution, solveFault, solved, solve}
 use Rattle.statement.specs.Demands.{Names}
 use Rattle.laws.specs.Built.{Sound}
-use Rattle.laws.specs.Given.{First, Before, BadEntry, WrongAt, BadStart, BadRows, Held, SizesGiven, AnalyseGiven, factored, order, stop, ran, Fails, Housed, Ordered, FactorGiven, Met, scratch, Sided, SolveGiven}
-use Rattle.laws.proofs.Input.{upper}
-use Rattle.laws.proofs.FactorTree.{upper′}
-use Rattle.laws.proofs.Shapes.{shape-built}
-use Rattle.laws.proofs.Built.{sound}
-use Rattle.laws.proofs.Order.{named, fails, leastOf, leastOf-le}
-use Rattle.laws.proofs.Demand.{inv}
-use Rattle.laws.proofs.Names.{names-good}
-use Rattle.laws.proofs.Faults.{no-fault, good-of}
-use Rattle.laws.proofs.Exactly.{good-to, well-of, structure-never, order-exactly}
-use Rattle.laws.proofs.Bools.{or-cases, or-left, or-right, eqb-of, T-dec, T-true, T-false, le-or-lt}
-use Rattle.laws.proofs.Stages.{or-reads, and-reads, not-reads, not-not-reads, nor-reads, eqb-reads, ltb-reads, nltb-reads, some-none, Found, found-same, found-step, Stage, chain, renamed, testing, Answers, opening, after, number-has, test-answers, search-answers, least-answers, short-answers, lowest, named-is, or-iff, reply, reply-accepted, reply-number, inside, has-inside}
+use Rattle.laws.specs.Given.{First, analyseNumbers, factorNumbers, solveNumbers, WrongAt, BadStart, BadRows, Held, SizesGiven, AnalyseGiven, factored, order, stop, ran, Fails, Housed, Ordered, FactorGiven, Met, scratch, Sided, SolveGiven}
+use Rattle.laws.proofs.Listed.{order-given, least-fails, none-fails, order-exactly}
+use Rattle.laws.proofs.Analysed.{shape-n, ok}
+use Rattle.laws.proofs.Faults.{unequal, above, input}
+use Rattle.laws.proofs.Exactly.{structure-never}
+use Rattle.laws.proofs.Bools.{T-true, T-false, not-not-reads}
+use Rattle.laws.proofs.Stages.{some-none, Stage, chain, renamed, testing, Answers, opening, after, number-has, test-answers, search-answers, short-answers, lowest, named-is, or-iff, reply, reply-accepted, reply-number, inside, has-inside}
 use Rattle.statement.specs.declared.Original.{Original}
 use Rattle.statement.specs.declared.Record.{Record}
 use Rattle.statement.specs.declared.Order.{Order}
@@ -41,142 +34,6 @@ use Rattle.statement.specs.declared.Stop.{Stop}
 use Rattle.statement.specs.declared.Room.{Room}
 use Rattle.statement.specs.declared.Answer.{Answer}
 use Rattle.statement.specs.declared.Answer.the-variants.{OverLimit, WrongLengths, WrongStarts, WrongColumn, ShortArea, OverCap, WrongOrder, WrongPivot, WrongSide, NoFactor, WrongStructure}
-
--- ---- number 8
-
--- those named before position k of the list r, after those on a
-abbrev seen : List ℕ → List ℕ → ℕ → List ℕ
-seen a r k = named a (take k r)
-
-seen-reads : (x : ℕ) (a r : List ℕ) (k : ℕ) → k ≤ length r → T (has x (seen a r k)) ↔ (T (has x a) ⊎ Before r k x)
-unfolding has
-seen-reads x a r zero h = (inl, ⊎-elim (λ t. t) (λ z. absurd (not-suc-le-zero (z .1))))
-seen-reads x a [] (suc k) h = absurd (not-suc-le-zero h)
-seen-reads x a (J ∷ r) (suc k) h = go (seen-reads x (J ∷ a) r k (omega arith))
-  where
-    first : T (eqb J x || has x a) → T (has x a) ⊎ Before (J ∷ r) (suc k) x
-    first t = ⊎-elim (λ e. inr (0, omega arith, eqb→eq J x e)) inl (or-cases (eqb J x) (has x a) t)
-
-    back : (y : ℕ) → y < suc k → getD (J ∷ r) y 0 ≡ x → T (eqb J x || has x a) ⊎ Before r k x
-    back zero l e = inl (or-left (eqb J x) _ (eqb-of e))
-    back (suc y) l e = inr (y, omega arith, e)
-
-    go : T (has x (seen (J ∷ a) r k)) ↔ (T (eqb J x || has x a) ⊎ Before r k x) → T (has x (seen (J ∷ a) r k)) ↔ (T (has x a) ⊎ Before (J ∷ r) (suc k) x)
-    go s = (
-      λ t. ⊎-elim first (λ z. inr (suc (z .0), omega (arith, z .1), z .2)) (s .0 t),
-      λ t. s .1 (⊎-elim (λ u. inl (or-right (eqb J x) _ u)) (λ z. back (z .0) (z .1) (z .2)) t),
-    )
-
--- a test of three parts fails
-parts : (a b c : Bool) → T (not (a && not b && c)) ↔ (T (not a) ⊎ (T b ⊎ (T a × T (not c))))
-parts true true c = (λ _. inr (inl tt), λ _. tt)
-parts true false c = (λ t. inr (inr (tt, t)), ⊎-elim (λ u. absurd u) (⊎-elim (λ u. absurd u) (λ u. u .1)))
-parts false b c = (λ _. inl tt, λ _. tt)
-
-before-reads : (x : ℕ) (r : List ℕ) (k : ℕ) → k ≤ length r → T (has x (seen [] r k)) ↔ Before r k x
-unfolding has
-before-reads x r k h = let s = seen-reads x [] r k h in (λ t. ⊎-elim (λ u. absurd u) (λ z. z) (s .0 t), λ z. s .1 (inr z))
-
-module _ (S : Shape) where
-  -- one of J's children below M is not on the list
-  ready-reads : (l : List ℕ) (J M : ℕ) → T (not (ready S l J M)) ↔ ((K : ℕ) × (K < M) × (parentOf S K ≡ J) × T (not (has K l)))
-  unfolding ready
-  ready-reads l J zero = (λ t. absurd t, λ z. absurd (not-suc-le-zero (z .1)))
-  ready-reads l J (suc M) = (
-    λ t. ⊎-elim
-        (λ u. let z = ready-reads l J M .0 u in (z .0, omega (arith, z .1), z .2, z .3))
-        (λ u. let z = missing (eqb (parentOf S M) J) (has M l) u in (M, le-refl (suc M), eqb→eq (parentOf S M) J (z .0), z .1))
-        (nand (ready S l J M) _ t),
-    λ z. ⊎-elim
-        (λ (e : z .0 ≡ M). nand-right (ready S l J M) _ (found (eqb (parentOf S M) J) (has M l) (rw (← e) (eqb-of (z .2))) (rw (← e) (z .3))))
-        (λ (u : z .0 < M). nand-left (ready S l J M) _ (ready-reads l J M .1 (z .0, u, z .2, z .3)))
-        (eq-or-lt-of-le (let u : z .0 ≤ M = omega (arith, z .1) in u)),
-  )
-    where
-      nand : (a b : Bool) → T (not (a && b)) → T (not a) ⊎ T (not b)
-      nand true b t = inr t
-      nand false b t = inl tt
-
-      nand-left : (a b : Bool) → T (not a) → T (not (a && b))
-      nand-left true b t = absurd t
-      nand-left false b t = tt
-
-      nand-right : (a b : Bool) → T (not b) → T (not (a && b))
-      nand-right true b t = t
-      nand-right false b t = tt
-
-      missing : (a b : Bool) → T (not (not a || b)) → T a × T (not b)
-      missing true b t = (tt, t)
-      missing false b t = absurd t
-
-      found : (a b : Bool) → T a → T (not b) → T (not (not a || b))
-      found true b t u = u
-      found false b t u = absurd t
-
-  unfoldable good : List ℕ → ℕ → Bool
-  good a J = ltb J (supernodes S) && not (has J a) && ready S a J J
-
-  abbrev Bad : List ℕ → List ℕ → ℕ → Type 0
-  Bad a r k = T (not (good (seen a r k) (getD r k 0)))
-
-  -- the search as the first bad entry
-  bad-given : (a r : List ℕ) (p q : ℕ) → (firstBad S a r p ≡ some q) ↔ Found (Bad a r) (length r) (λ k. p + k) q
-  unfolding firstBad good
-  bad-given a [] p q = (λ e. absurd (some-none (sym e)), λ h. absurd (not-suc-le-zero (h .1 .below)))
-  bad-given a (J ∷ r) p q = rw (swap (good a J)) (found-step (Bad a (J ∷ r)) (length r) (λ k. p + k) (λ k. suc p + k) q (not (good a J)) (firstBad S (J ∷ a) r (suc p)) (λ t. t, λ t. t) (λ i. omega arith) (bad-given (J ∷ a) r (suc p) q))
-    where
-      swap : (b : Bool) → cond b (firstBad S (J ∷ a) r (suc p)) (some p) ≡ cond (not b) (some (p + 0)) (firstBad S (J ∷ a) r (suc p))
-      swap true = refl
-      swap false = ap some (omega arith)
-
-  module _ (up : (K : ℕ) → K < supernodes S → K < parentOf S K) (l : List ℕ) where
-    bad-reads : (k : ℕ) → k < length l → Bad [] l k ↔ BadEntry S l k
-    unfolding good has
-    bad-reads k h = (
-      λ t. ⊎-elim
-          (λ u. inl (nltb→le J (supernodes S) u))
-          (⊎-elim (λ u. inr (inl (on J .0 u))) (λ u.
-          let z = ready-reads (seen [] l k) J J .0 (u .1) in
-          inr (inr (z .0, omega (arith, z .1, ltb→lt J (supernodes S) (u .0)), z .2, λ b. T-not (has (z .0) (seen [] l k)) (z .3) (on (z .0) .1 b)))))
-          (parts (ltb J (supernodes S)) (has J (seen [] l k)) (ready S (seen [] l k) J J) .0 t),
-      λ b. parts (ltb J (supernodes S)) (has J (seen [] l k)) (ready S (seen [] l k) J J) .1 (⊎-elim
-          (λ u. inl (nltb-reads J (supernodes S) .1 u))
-          (⊎-elim (λ u. inr (inl (on J .1 u))) (λ z. ⊎-elim
-          (λ u. inr (inr (u, ready-reads (seen [] l k) J J .1 (z .0, omega (arith, up (z .0) (z .1), z .2), z .2, not-T (has (z .0) (seen [] l k)) (λ t. z .3 (on (z .0) .0 t))))))
-          inl (T-dec (ltb J (supernodes S)))))
-          b),
-    )
-      where
-        J : ℕ
-        J = getD l k 0
-
-        on : (x : ℕ) → T (has x (seen [] l k)) ↔ Before l k x
-        on x = before-reads x l k (omega arith)
-
-    -- number 8's position
-    order-given : (t p : ℕ) → (orderFault S l t ≡ some p) ↔ WrongAt S l t p
-    unfolding orderFault
-    order-given t p = go (eqb (length l) (supernodes S)) (leb t (supernodes S)) (eqb-reads (length l) (supernodes S)) (leb→le t (supernodes S), le→leb t (supernodes S))
-      where
-        entries : (firstBad S [] l 0 ≡ some p) ↔ First (BadEntry S l) (length l) p
-        entries = (
-          λ e.
-              let z = found-same (Bad [] l) (BadEntry S l) (length l) (λ k. 0 + k) p bad-reads .0 (bad-given [] l 0 p .0 e) in
-              let q : z .0 ≡ p = omega (arith, z .2) in
-              rw q at (z .1),
-          λ f. bad-given [] l 0 p .1 (found-same (Bad [] l) (BadEntry S l) (length l) (λ k. 0 + k) p bad-reads .1 (p, f, omega arith)),
-        )
-
-        go : (a b : Bool) → T a ↔ (length l ≡ supernodes S) → T b ↔ (t ≤ supernodes S) → (cond (a && b) (firstBad S [] l 0) (some (supernodes S)) ≡ some p) ↔ WrongAt S l t p
-        go true true x y = (
-          λ e. inr ((x .0 tt, y .0 tt), entries .0 e),
-          ⊎-elim (λ u. absurd (⊎-elim (λ ne. ne (x .0 tt)) (λ (h : supernodes S < t). absurd (omega (arith, y .0 tt))) (u .0))) (λ u. entries .1 (u .1)),
-        )
-        go true false x y = (
-          λ e. inl (inr (⊎-elim (λ (h : t ≤ supernodes S). absurd (y .1 h)) (λ (h : supernodes S < t). h) (le-or-lt t (supernodes S))), cc),
-          ⊎-elim (λ u. ap some (sym (u .1))) (λ u. absurd (y .1 (u .0 .1))),
-        )
-        go false b x y = (λ e. inl (inl (λ q. x .1 q), cc), ⊎-elim (λ u. ap some (sym (u .1))) (λ u. absurd (x .1 (u .0 .0))))
 
 -- number 8 as a test
 position-given : (W : ℕ → Type 0) (f : Option ℕ) → ((p : ℕ) → (f ≡ some p) ↔ W p) → (x : Answer) → (wrongPosition f ≡ some x) ↔ ((p : ℕ) × W p × (x ≡ WrongOrder p))
@@ -192,87 +49,9 @@ position-none (some p) = (λ e. absurd (some-none e), λ e. absurd (some-none e)
 order-answers : (S : Shape) → Sound S → (l : List ℕ) (t : ℕ) → Answers (wrongPosition (orderFault S l t)) (8 ∷ []) (λ x. (p : ℕ) × WrongAt S l t p × (x ≡ WrongOrder p)) (Names S l × (t ≤ supernodes S))
 order-answers S ok l t = record {
   given = position-given (WrongAt S l t) (orderFault S l t) (order-given S (ok .up) l t);
-  passed = Iff·trans (position-none (orderFault S l t)) (order-exactly S (λ i j. +0) ok l t);
+  passed = Iff·trans (position-none (orderFault S l t)) (order-exactly S (ok .up) l t);
   numbers = λ x z. number-has (WrongOrder (z .0)) x (z .2);
 }
-
--- ---- number 9
-
-least-failed : (n : ℕ) (f : ℕ → Fate) (l : List ℕ) → leastOf n f l < n → (K : ℕ) × T (has K l) × (f K ≡ failed (leastOf n f l))
-unfolding leastOf has
-least-failed n f [] h = absurd (omega arith)
-least-failed n f (J ∷ l) h = go (f J) refl h (least-failed n f l)
-  where
-    m : ℕ
-    m = leastOf n f l
-
-    old : (k : ℕ) → k ≡ m → k < n → (m < n → (K : ℕ) × T (has K l) × (f K ≡ failed m)) → (K : ℕ) × T (eqb J K || has K l) × (f K ≡ failed k)
-    old k q h ih = let z = ih (omega arith) in rw q (z .0, or-right (eqb J (z .0)) _ (z .1), z .2)
-
-    go : (x : Fate) → f J ≡ x → min (fails n x) m < n → (m < n → (K : ℕ) × T (has K l) × (f K ≡ failed m)) → (K : ℕ) × T (eqb J K || has K l) × (f K ≡ failed (min (fails n x) m))
-    go (done g) e h ih = old (min n m) (omega (arith, leastOf-le n f l)) h ih
-    go skipped e h ih = old (min n m) (omega (arith, leastOf-le n f l)) h ih
-    go (failed c) e h ih = ⊎-elim
-        (λ (u : c ≤ m). let q : min c m ≡ c = omega arith in rw q (J, or-left (eqb J J) _ (eqb-refl J), e))
-        (λ (u : m < c). old (min c m) (omega arith) h ih) (le-or-lt c m)
-
-least-below : (n : ℕ) (f : ℕ → Fate) (l : List ℕ) (K c : ℕ) → T (has K l) → f K ≡ failed c → leastOf n f l ≤ c
-unfolding leastOf has
-least-below n f [] K c h e = absurd h
-least-below n f (J ∷ l) K c h e = ⊎-elim
-    (λ u. let q : f J ≡ failed c = ap f (eqb→eq J K u) ∙ e in rw q (omega arith))
-    (λ u. omega (arith, least-below n f l K c u e)) (or-cases (eqb J K) (has K l) h)
-
-module _ (S : Shape) (A : ℕ → ℕ → Float) (ok : Sound S) (l : List ℕ) (m : Names S l) (t : ℕ) (h : t ≤ supernodes S) where
-  abbrev end : State
-  end = run S A (start S) (take t l)
-
-  abbrev Failing : ℕ → Type 0
-  Failing c = (K : ℕ) × Before l t K × (fate S A end K ≡ failed c)
-
-  low : end .least ≡ leastOf (S .n) (fate S A end) (seen [] l t)
-  low = inv S A ok l (names-good S (ok .up) l m) t .low
-
-  least-fails : end .least < S .n → Failing (end .least)
-  least-fails u =
-      let z = least-failed (S .n) (fate S A end) (seen [] l t) (omega (arith, low)) in
-      (z .0, before-reads (z .0) l t (omega (arith, m .all)) .0 (z .1), z .2 ∙ ap failed (sym low))
-
-  none-fails : (c : ℕ) → c < end .least → Failing c → ⊥
-  none-fails c u z = absurd (omega (arith, low, least-below (S .n) (fate S A end) (seen [] l t) (z .0) c (before-reads (z .0) l t (omega (arith, m .all)) .1 (z .1)) (z .2)))
-
--- ---- numbers 1 to 4
-
-start-reads : (M : Matrix) (p : ℕ) → T (wrongStart M p) ↔ BadStart M p
-unfolding wrongStart
-start-reads M p =
-    let s = getD (M .starts) p 0 in
-    or-reads (eqb p 0 && not (eqb s 0)) _ (and-reads (eqb p 0) (not (eqb s 0)) (eqb-reads p 0) (not-reads (eqb s 0) (eqb-reads s 0)))
-    (or-reads (ltb 0 p && ltb s (getD (M .starts) (p - 1) 0)) _ (and-reads (ltb 0 p) _ (ltb-reads 0 p) (ltb-reads s (getD (M .starts) (p - 1) 0)))
-    (and-reads (eqb p (M .n)) (not (eqb s (rowsLength M))) (eqb-reads p (M .n)) (not-reads (eqb s (rowsLength M)) (eqb-reads s (rowsLength M)))))
-
-rows-read : (M : Matrix) (k : ℕ) → T (not (goodRows k (column (M .starts) (M .rows) k))) ↔ BadRows M k
-rows-read M k = let l = column (M .starts) (M .rows) k in not-reads (goodRows k l) (good-to k l, λ h. good-of k l (h .0) (h .1))
-
-unequal : (m n : ℕ) (a : Answer) → Answers (test (not (eqb m n)) a none) (number a ∷ []) (λ x. (m ≢ n) × (x ≡ a)) (m ≡ n)
-unequal m n a = test-answers (not (eqb m n)) a (not-reads (eqb m n) (eqb-reads m n)) (not-not-reads (eqb m n) (eqb-reads m n))
-
-above : (m n : ℕ) (a : Answer) → Answers (test (ltb m n) a none) (number a ∷ []) (λ x. (m < n) × (x ≡ a)) (n ≤ m)
-above m n a = test-answers (ltb m n) a (ltb-reads m n) (nltb-reads m n)
-
-unfoldable input : (M : Matrix) → Stage Unit (inputFault M) (1 ∷ 2 ∷ 2 ∷ 3 ∷ 4 ∷ []) (WellFormed M)
-unfolding inputFault
-input M =
-    let n = M .n in
-    let a = rowsLength M in
-    let s = testing _ _ (opening (test-answers (ltb columnsLimit n || ltb rowsLimit a) OverLimit
-    (or-reads (ltb columnsLimit n) (ltb rowsLimit a) (ltb-reads columnsLimit n) (ltb-reads rowsLimit a))
-    (nor-reads (ltb columnsLimit n) (ltb rowsLimit a) (nltb-reads columnsLimit n) (nltb-reads rowsLimit a))))
-    (testing _ _ (after (λ _. unequal (length (M .starts)) (suc n) (WrongLengths 1)))
-    (testing _ _ (after (λ _. unequal (length (M .rows)) (length (M .values)) (WrongLengths 2)))
-    (testing _ _ (after (λ _. least-answers (wrongStart M) (BadStart M) (start-reads M) (suc n) (λ p. WrongStarts p)))
-    (after (λ _. least-answers (λ k. not (goodRows k (column (M .starts) (M .rows) k))) (BadRows M) (rows-read M) n (λ k. WrongColumn (record { 0 = k }))))))) in
-    record { When = s .When; given = s .given; passed = (λ h. well-of M (h .1), λ w. (tt, no-fault M w)); numbers = s .numbers }
 
 -- ---- numbers 5, 6 and 12, and what comes after
 
@@ -345,6 +124,10 @@ settled-answer r (some a) R X = refl
 others : {Q : Type 0} {ns : List ℕ} (f : Option Answer) → Stage Unit f ns Q → (ms : List ℕ) → T (inside (0 ∷ ns) ms) → has (number (answered f)) ms ≡ true
 others {ns} f s ms t = T-true _ (has-inside (number (answered f)) (0 ∷ ns) ms t (reply-number f s))
 
+pub analyse-passed : (M : Matrix) (cap : ℕ) (r : Room) → analyseFault M cap r (analysis M) ≡ none → Held M cap (needs (M .n) (rowsLength M) r) (later (analysis M) r)
+unfolding analyseFault
+analyse-passed M cap r p = whole M cap (needs (M .n) (rowsLength M) r) (later (analysis M) r) none (idle []) .passed .0 (tt, p)
+
 pub analyse-given : (M : Matrix) (cap : ℕ) (r : Room) → AnalyseGiven M cap r
 unfolding analyse analyseFault has inside
 analyse-given M cap r =
@@ -355,19 +138,16 @@ analyse-given M cap r =
     record {
       sizes = sizes-given M cap early late none (idle (8 ∷ 9 ∷ [])) (analyse M cap r .returned .answer) is;
       accepted = rw is (reply-accepted f (whole M cap early late none (idle [])) tt);
-      others = rw is (others f (whole M cap early late none (idle [])) (0 ∷ 1 ∷ 2 ∷ 3 ∷ 4 ∷ 5 ∷ 6 ∷ []) tt);
+      others = rw is (others f (whole M cap early late none (idle [])) analyseNumbers tt);
     }
 
-shape-n : (M : Matrix) → analysis M .shape .n ≡ M .n
-unfolding analysis shapeOf
-shape-n M = refl
-
--- the structure of a well-formed matrix
-pub shape-sound : (M : Matrix) → WellFormed M → Sound (analysis M .shape)
+found-n : (M : Matrix) → analysis M .shape .n ≡ M .n
 unfolding analysis
-shape-sound M w =
-    let p = renumbered (M .n) (permutation (pattern M) (M .n)) (pattern M) in
-    sound (shapeOf p (M .n)) (shape-built p (M .n) (upper′ (pattern M) (M .n) (upper (M .n) (M .starts) (M .rows) (w .columns))))
+found-n M = shape-n M
+
+found-sound : (M : Matrix) → WellFormed M → Sound (analysis M .shape)
+unfolding analysis
+found-sound M w = ok M w
 
 module _ (M : Matrix) (cap : ℕ) (o : Order) (l : List ℕ) (e : Stop) (r : Room) where
   abbrev S : Shape
@@ -384,17 +164,21 @@ module _ (M : Matrix) (cap : ℕ) (o : Order) (l : List ℕ) (e : Stop) (r : Roo
 
   unfoldable tail : Stage (Housed M cap o l e r) rest (8 ∷ 9 ∷ []) (Ordered M cap o l e r × ((c : ℕ) → c < M .n → Fails M cap o l e r c → ⊥))
   tail =
-      chain (after (λ h. order-answers S (shape-sound M (h .0 .0 .0)) (order M cap o l e r) (stop M cap o l e r)))
+      chain (after (λ h. order-answers S (found-sound M (h .0 .0 .0)) (order M cap o l e r) (stop M cap o l e r)))
       (after (λ h. search-answers (Fails M cap o l e r) (M .n) (s .least) (least h) (before h) column-at))
     where
       ok : Ordered M cap o l e r → Sound S
-      ok h = shape-sound M (h .0 .0 .0 .0)
+      ok h = found-sound M (h .0 .0 .0 .0)
 
       least : Ordered M cap o l e r → s .least < M .n → Fails M cap o l e r (s .least)
-      least h u = unfold stopped in least-fails S (entryA M (analysis M .permutation)) (ok h) (order M cap o l e r) (h .1 .0) (stop M cap o l e r) (h .1 .1) (omega (arith, shape-n M))
+      least h u = unfold stopped in least-fails S (entryA M (analysis M .permutation)) (ok h) (order M cap o l e r) (h .1 .0) (stop M cap o l e r) (h .1 .1) (omega (arith, found-n M))
 
       before : Ordered M cap o l e r → (i : ℕ) → i < s .least → i < M .n → Fails M cap o l e r i → ⊥
       before h i u _ = unfold stopped in none-fails S (entryA M (analysis M .permutation)) (ok h) (order M cap o l e r) (h .1 .0) (stop M cap o l e r) (h .1 .1) i u
+
+  pub factor-passed : factorFault M cap o l (stop M cap o l e r) r (analysis M) s ≡ none → Ordered M cap o l e r
+  unfolding factorFault
+  factor-passed p = whole M cap (factorNeeds M r) (factorLater (analysis M) r) rest tail .passed .0 (tt, p) .0
 
   pub factor-given : FactorGiven M cap o l e r
   unfolding factor factorFault has inside whole tail
@@ -409,7 +193,7 @@ module _ (M : Matrix) (cap : ℕ) (o : Order) (l : List ℕ) (e : Stop) (r : Roo
         wrongOrder = λ p. Iff·trans (says (WrongOrder p) (λ e. omega arith)) (Iff·and Iff·rfl (named-is (WrongAt S (order M cap o l e r) (stop M cap o l e r)) (λ p. WrongOrder p) (λ i j e. cc) p));
         wrongPivot = λ k. Iff·trans (says (WrongPivot k) (λ e. omega arith)) (Iff·and Iff·rfl (λ z. (z .0, z .1, pivot k _ (z .2)), λ z. (z .0, z .1, ap WrongPivot (z .2))));
         accepted = rw is (reply-accepted f (whole M cap early late rest tail) tt);
-        others = rw is (others f (whole M cap early late rest tail) (0 ∷ 1 ∷ 2 ∷ 3 ∷ 4 ∷ 5 ∷ 6 ∷ 8 ∷ 9 ∷ []) tt);
+        others = rw is (others f (whole M cap early late rest tail) factorNumbers tt);
       }
     where
       pivot : (i j : Original) → WrongPivot i ≡ WrongPivot j → i ≡ j
@@ -451,5 +235,5 @@ module _ (R : Record) (fa : FactorAreas) (b : List Float) (words floats : ℕ) w
         wrongSide = λ x. Iff·trans (says (WrongSide x) (λ e. omega arith)) (Iff·and Iff·rfl (Iff·and Iff·rfl (λ e. cc, λ e. ap WrongSide e)));
         shortArea = λ a d. Iff·trans (says (ShortArea a d) (λ e. omega arith)) (Iff·and Iff·rfl (lowest (scratch R fa b words floats) a d));
         accepted = rw solve-is (reply-accepted f solving tt);
-        others = rw solve-is (others f solving (0 ∷ 5 ∷ 10 ∷ 11 ∷ []) tt);
+        others = rw solve-is (others f solving solveNumbers tt);
       }

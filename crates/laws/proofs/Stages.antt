@@ -1,51 +1,22 @@
 -- Tests in order: what each answers exactly when, put together once for all calls. Assumes nothing.
 use mathlib.Core.Path.{_≡_, refl, sym, ap, _∙_, subst}
 use mathlib.Core.Logic.{_⊎_, inl, inr, ⊎-elim, _≢_, _↔_, Iff·trans}
-use mathlib.Core.Bool.{Bool, true, false, cond, not, _&&_, _||_}
+use mathlib.Core.Bool.{Bool, true, false, cond, not, _&&_}
 use mathlib.Core.List.{List, [], _∷_, _++_}
 use mathlib.Core.Option.{Option, none, some}
 use Prim.Native.Nat.{ℕ, zero, suc, _≤_, _<_}
 use native.Mathlib.Omega.{arith}
 use native.Mathlib.Nat.{not-suc-le-zero}
-use lib.Dec.{T, T-not, not-T, ltb, eqb, ltb→lt, lt→ltb, nltb→le, eqb→eq}
+use lib.Dec.{T, T-not, ltb, eqb, ltb→lt, nltb→le, eqb→eq}
 use lib.ListN.{length}
 use Rattle.statement.specs.Lists.{has, least}
 use Rattle.statement.specs.Answers.{number, test, orElse, answered}
 use Rattle.statement.specs.Areas.{Need, short}
 use Rattle.laws.specs.Given.{First, nth, Met, Lowest}
-use Rattle.laws.proofs.Bools.{or-cases, or-left, or-right, and-both, and-intro, eqb-of, le-or-lt, lt-or-le}
+use Rattle.laws.proofs.Bools.{or-cases, or-left, or-right, and-both, eqb-of, le-or-lt, lt-or-le, ltb-reads, nltb-reads}
 use Rattle.laws.proofs.Fill.{least-is}
 use Rattle.statement.specs.declared.Answer.{Answer}
 use Rattle.statement.specs.declared.Answer.the-variants.{Accepted, ShortArea}
-
--- ---- tests as facts, both ways
-
-pub or-reads : {A B : Type 0} (a b : Bool) → T a ↔ A → T b ↔ B → T (a || b) ↔ (A ⊎ B)
-or-reads a b p q = (λ t. ⊎-elim (λ x. inl (p .0 x)) (λ y. inr (q .0 y)) (or-cases a b t), ⊎-elim (λ x. or-left a b (p .1 x)) (λ y. or-right a b (q .1 y)))
-
-pub and-reads : {A B : Type 0} (a b : Bool) → T a ↔ A → T b ↔ B → T (a && b) ↔ (A × B)
-and-reads a b p q = (λ t. let h = and-both a b t in (p .0 (h .0), q .0 (h .1)), λ h. and-intro a b (p .1 (h .0)) (q .1 (h .1)))
-
-pub not-reads : {A : Type 0} (a : Bool) → T a ↔ A → T (not a) ↔ (A → ⊥)
-not-reads a p = (λ t x. T-not a t (p .1 x), λ h. not-T a (λ t. h (p .0 t)))
-
-pub not-not-reads : {A : Type 0} (a : Bool) → T a ↔ A → T (not (not a)) ↔ A
-not-not-reads true p = p
-not-not-reads false p = p
-
--- neither test passes
-pub nor-reads : {A B : Type 0} (a b : Bool) → T (not a) ↔ A → T (not b) ↔ B → T (not (a || b)) ↔ (A × B)
-nor-reads true b p q = (λ t. absurd t, λ h. p .1 (h .0))
-nor-reads false b p q = (λ t. (p .0 tt, q .0 t), λ h. q .1 (h .1))
-
-pub eqb-reads : (m n : ℕ) → T (eqb m n) ↔ (m ≡ n)
-eqb-reads m n = (eqb→eq m n, eqb-of)
-
-pub ltb-reads : (m n : ℕ) → T (ltb m n) ↔ (m < n)
-ltb-reads m n = (ltb→lt m n, lt→ltb m n)
-
-pub nltb-reads : (m n : ℕ) → T (not (ltb m n)) ↔ (n ≤ m)
-nltb-reads m n = (nltb→le m n, λ h. not-T (ltb m n) (λ t. absurd (omega (arith, ltb→lt m n t))))
 
 pub or-iff : {A B C D : Type 0} → A ↔ C → B ↔ D → (A ⊎ B) ↔ (C ⊎ D)
 or-iff p q = (⊎-elim (λ x. inl (p .0 x)) (λ y. inr (q .0 y)), ⊎-elim (λ x. inl (p .1 x)) (λ y. inr (q .1 y)))
@@ -265,7 +236,7 @@ unfolding short
 short-given [] x = (λ e. absurd (some-none (sym e)), λ h. absurd (not-suc-le-zero (h .1 .below)))
 short-given (y ∷ l) x = found-step (Short (y ∷ l)) (length l) (named (y ∷ l)) (named l) x (ltb (y .length) (y .need)) (short l) (ltb-reads (y .length) (y .need)) (λ i. refl) (short-given l x)
 
-short-passed : (l : List Need) → (short l ≡ none) ↔ Met l
+pub short-passed : (l : List Need) → (short l ≡ none) ↔ Met l
 unfolding short
 short-passed [] = (λ e k h. absurd (not-suc-le-zero h), λ h. refl)
 short-passed (y ∷ l) = go (ltb (y .length) (y .need)) refl (short-passed l)

@@ -1,5 +1,4 @@
 -- 01, "Sizes at the edges": the rows marked *, as cases and what 01 says of each. Definitions only.
-use mathlib.Core.Path.{_≡_, refl}
 use mathlib.Core.Bool.{false}
 use mathlib.Core.List.{List, [], _∷_, _++_, map}
 use Prim.Native.Nat.{ℕ, zero, suc, _+_, _*_}
@@ -10,7 +9,7 @@ use Rattle.statement.specs.Lists.{has, place, list, joined, rising, every, sele
 use Rattle.statement.specs.Input.{Matrix, value, wrongStart, goodRows, rowsLength}
 use Rattle.statement.specs.Fill.{after, fill, parent}
 use Rattle.statement.specs.Postorder.{forest, postorder, permutation, renumbered}
-use Rattle.statement.specs.Shape.{Shape, rowsOf, trapezoid, offset, stretch, put, zeros}
+use Rattle.statement.specs.Shape.{rowsOf, trapezoid, offset, stretch, put, zeros}
 use Rattle.statement.specs.Shape as shape
 use Rattle.statement.specs.Supernodes.{joins, begins, firstColumns, owner, shapeOf, below, update, updatesOf, updates, updateStarts}
 use Rattle.statement.specs.Tasks.{weight, load, begin, share, fitting, climbed, withTop, withTask, split, splitOf}

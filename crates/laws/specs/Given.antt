@@ -11,12 +11,12 @@ use Rattle.statement.specs.Lists.{has}
 use Rattle.statement.specs.Input.{Matrix, WellFormed, columnsLimit, rowsLimit, rowsLength, column}
 use Rattle.statement.specs.Postorder.{toOriginal}
 use Rattle.statement.specs.Shape.{Shape, supernodes, parentOf}
-use Rattle.statement.specs.Run.{State, failed, fate}
+use Rattle.statement.specs.Run.{State, blocked}
 use Rattle.statement.specs.Answers.{number}
 use Rattle.statement.specs.Areas.{Need, needs}
 use Rattle.statement.specs.Calls.{Analysis, analysis, entryA, later, analyse, factorNeeds, factorLater, orderOf, stopOf, stopped, factor}
 use Rattle.statement.specs.Solve.{FactorAreas, solvable, solve}
-use Rattle.statement.specs.Demands.{Names}
+use Rattle.statement.specs.Demands.{Names, Breaks}
 use Rattle.statement.specs.declared.Original.{Original}
 use Rattle.statement.specs.declared.Answer.{Answer}
 use Rattle.statement.specs.declared.Answer.the-variants.{Accepted, OverLimit, WrongLengths, WrongStarts, WrongColumn, ShortArea, OverCap, WrongOrder, WrongPivot, WrongSide, NoFactor}
@@ -116,7 +116,17 @@ module _ (S : Shape) (l : List ℕ) where
       (((length l ≢ supernodes S) ⊎ (supernodes S < t)) × (p ≡ supernodes S)) ⊎
       (((length l ≡ supernodes S) × (t ≤ supernodes S)) × First BadEntry (length l) p)
 
--- ---- the calls; `others`: no number off the list is given, so 12 never
+-- ---- the calls
+
+-- the numbers that each can answer: 12 never
+abbrev pub analyseNumbers : List ℕ
+analyseNumbers = 0 ∷ 1 ∷ 2 ∷ 3 ∷ 4 ∷ 5 ∷ 6 ∷ []
+
+abbrev pub factorNumbers : List ℕ
+factorNumbers = 0 ∷ 1 ∷ 2 ∷ 3 ∷ 4 ∷ 5 ∷ 6 ∷ 8 ∷ 9 ∷ []
+
+abbrev pub solveNumbers : List ℕ
+solveNumbers = 0 ∷ 5 ∷ 10 ∷ 11 ∷ []
 
 module _ (M : Matrix) (cap : ℕ) (r : Room) where
   abbrev pub analysed : Answer
@@ -125,7 +135,7 @@ module _ (M : Matrix) (cap : ℕ) (r : Room) where
   pub record AnalyseGiven : Type 0 where
     pub sizes : SizesGiven M cap (needs (M .n) (rowsLength M) r) (later (analysis M) r) analysed
     pub accepted : (analysed ≡ Accepted) ↔ Held M cap (needs (M .n) (rowsLength M) r) (later (analysis M) r)
-    pub others : has (number analysed) (0 ∷ 1 ∷ 2 ∷ 3 ∷ 4 ∷ 5 ∷ 6 ∷ []) ≡ true
+    pub others : has (number analysed) analyseNumbers ≡ true
 
 module _ (M : Matrix) (cap : ℕ) (o : Order) (l : List ℕ) (e : Stop) (r : Room) where
   abbrev pub factored : Answer
@@ -143,9 +153,9 @@ module _ (M : Matrix) (cap : ℕ) (o : Order) (l : List ℕ) (e : Stop) (r : Roo
   abbrev pub ran : State
   ran = stopped M X o l stop
 
-  -- column c fails within the first t: a supernode named there, none of whose children is halted, breaks the rule at c
+  -- column c fails within the first t: its supernode is named there, none of its children is halted, and the pivot breaks the rule
   abbrev pub Fails : ℕ → Type 0
-  Fails c = (K : ℕ) × Before order stop K × (fate (X .shape) (entryA M (X .permutation)) ran K ≡ failed c)
+  Fails c = (K : ℕ) × Before order stop K × (blocked (X .shape) (ran .halted) K K ≡ false) × Breaks (X .shape) (entryA M (X .permutation)) (ran .values) K c
 
   abbrev pub Housed : Type 0
   Housed = Held M cap (factorNeeds M r) (factorLater X r)
@@ -158,7 +168,7 @@ module _ (M : Matrix) (cap : ℕ) (o : Order) (l : List ℕ) (e : Stop) (r : Roo
     pub wrongOrder : (p : ℕ) → (factored ≡ WrongOrder p) ↔ (Housed × WrongAt (X .shape) order stop p)
     pub wrongPivot : (k : Original) → (factored ≡ WrongPivot k) ↔ (Ordered × ((c : ℕ) × First Fails (M .n) c × (k ≡ toOriginal (X .permutation) (record { 0 = c }))))
     pub accepted : (factored ≡ Accepted) ↔ (Ordered × ((c : ℕ) → c < M .n → Fails c → ⊥))
-    pub others : has (number factored) (0 ∷ 1 ∷ 2 ∷ 3 ∷ 4 ∷ 5 ∷ 6 ∷ 8 ∷ 9 ∷ []) ≡ true
+    pub others : has (number factored) factorNumbers ≡ true
 
 module _ (R : Record) (f : FactorAreas) (b : List Float) (words floats : ℕ) where
   abbrev pub solved : Answer
@@ -176,4 +186,4 @@ module _ (R : Record) (f : FactorAreas) (b : List Float) (words floats : ℕ) wh
     pub wrongSide : (x : ℕ) → (solved ≡ WrongSide x) ↔ ((solvable R f ≡ true) × ((length b ≢ R .n) × (x ≡ length b)))
     pub shortArea : (a d : ℕ) → (solved ≡ ShortArea a d) ↔ (Sided × Lowest scratch a d)
     pub accepted : (solved ≡ Accepted) ↔ (Sided × Met scratch)
-    pub others : has (number solved) (0 ∷ 5 ∷ 10 ∷ 11 ∷ []) ≡ true
+    pub others : has (number solved) solveNumbers ≡ true
