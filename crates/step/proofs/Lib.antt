@@ -5,3 +5,4 @@ pub mod Earlies
 pub mod Gather
 pub mod Takes
 pub mod Spots
+pub mod Link

@@ -2,3 +2,4 @@ pub mod Answer
 pub mod Ready
 pub mod Update
 pub mod Spread
+pub mod Laid

@@ -1,7 +1,7 @@
 -- What the step asks of the structure that is lent to it: the analysis gives it. Assumes nothing.
 use mathlib.Core.Path.{_≡_}
 use mathlib.Core.Bool.{true}
-use mathlib.Core.List.{List, []}
+use mathlib.Core.List.{List, [], _∷_}
 use Prim.Native.Nat.{ℕ, suc, _+_, _-_, _≤_, _<_}
 use lib.ListN.{length, getD}
 use lib.Ieee.{Float, nan}
@@ -9,6 +9,7 @@ use Rattle.areas.specs.Touch.{Touched}
 use Rattle.panels.specs.Dense.{cell}
 use Rattle.step.specs.Update.{Updated}
 use Rattle.statement.specs.Shape.{Shape, first, width, height, rowsOf, trapezoid, offset}
+use Rattle.statement.specs.declared.Update.{Update}
 use Rattle.statement.specs.Lists.{has}
 use Rattle.statement.specs.Input.{+0}
 use Rattle.statement.specs.Rules.{earlier}
@@ -47,6 +48,9 @@ low upd u = word upd u 1
 
 abbrev pub high : List (List ℕ) → ℕ → ℕ
 high upd u = word upd u 2
+
+abbrev pub triple : Update → List ℕ
+triple u = u .supernode ∷ u .p1 ∷ u .p2 ∷ []
 
 -- the updates from u0 below u1 are those of J, rising
 pub record Listed (S : Shape) (J : ℕ) (upd : List (List ℕ)) (u0 u1 : ℕ) : Type 0 where
