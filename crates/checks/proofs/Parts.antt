@@ -4,7 +4,6 @@ use mathlib.Core.Bool.{Bool, true, false, not, _&&_}
 use mathlib.Core.List.{List, []}
 use Prim.Native.Nat.{ℕ, zero, suc, _+_, _-_, _*_, _≤_, _<_}
 use native.Mathlib.Omega.{arith}
-use native.Mathlib.Numerals.{add-one}
 use lib.Dec.{T, eqb, leb, ltb, ltb→lt}
 use lib.ListN.{length, getD, take, replicate, length-replicate}
 use lib.Seq.{length-take-le, getD-take}
@@ -18,7 +17,7 @@ use Rattle.laws.proofs.Bools.{and-both}
 use Rattle.laws.proofs.Every.{every-ext, every-all, every-at}
 use Rattle.laws.proofs.Order.{never}
 use Rattle.laws.proofs.Permuted.{permuted}
-use Rattle.laws.proofs.Checked.{columns-few, Roomy, roomy, fitted, risingStarts, rows-parts, walkable}
+use Rattle.laws.proofs.Checked.{cut, columns-few, Roomy, roomy, fitted, risingStarts, rows-parts, walkable}
 
 pub not-so : (b : Bool) → (T b → ⊥) → b ≡ false
 not-so true h = absurd (h tt)
@@ -48,11 +47,6 @@ pub good-is : {rows : List ℕ} {f w n : ℕ} (S : Shape) (K : ℕ) → rows ≡
     → goodSupernode S K ≡ every (λ x. ltb (getD rows x 0) (getD rows (suc x) 0)) (length rows - 1) && (leb w (length rows) && (every (λ c. eqb (getD rows c 0) (f + c)) w && every (λ x. ltb (getD rows x 0) n) (length rows)))
 unfolding goodSupernode
 good-is S K e p q r = rw (e, p, q, r)
-
--- the lent parts are what the record's counts cut out
-pub cut : (R : Record) (f : FactorAreas) → laid (R .n) (take (R .supernodes + 1) (f .firsts)) (take (R .supernodes + 1) (f .starts)) (take (R .rows) (f .rows)) ≡ shapeIn R f
-unfolding shapeIn
-cut R f = ap (λ m. laid (R .n) (take m (f .firsts)) (take m (f .starts)) (take (R .rows) (f .rows))) (add-one (R .supernodes))
 
 pub trapezoid-bound : (m w : ℕ) → m ≤ 32768 → trapezoid m w ≤ 32768 * w
 unfolding trapezoid
