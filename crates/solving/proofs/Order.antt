@@ -1,12 +1,11 @@
 -- b into factor order and back, and the four passes together. Assumes nothing.
 use mathlib.Core.Path.{_≡_, refl, sym, ap, _∙_}
-use mathlib.Core.Bool.{Bool, true}
+use mathlib.Core.Bool.{true}
 use mathlib.Core.List.{List, append-nil}
 use Prim.Native.Nat.{ℕ, suc, _+_, _<_, _≤_}
 use native.Mathlib.Omega.{arith}
 use native.Mathlib.Decide.{ℕ-discrete}
 use native.Mathlib.Numerals.{add-one}
-use lib.Dec.{T}
 use lib.ListN.{length, getD, set, take, length-set}
 use lib.Seq.{drop-length, getD-set-same, getD-set-other, ext-getD}
 use lib.Ieee.{Float, nan}
@@ -18,14 +17,12 @@ use Rattle.statement.specs.declared.Record.{Record}
 use Rattle.laws.specs.Lent.{laid}
 use Rattle.laws.proofs.Checked.{cut, ready}
 use Rattle.laws.proofs.Bools.{and-both, T-true}
+use Rattle.laws.proofs.Taken.{true-T}
 use Rattle.laws.proofs.Permuted.{Permuted}
 use Rattle.laws.proofs.Ranks.{list-length, list-at}
 use Rattle.areas.proofs.Front.{Front, front-over}
 use Rattle.areas.proofs.Lists.{getD-any}
 use Rattle.solving.specs.Walk.{Solving}
-
-pub true-T : {b : Bool} → b ≡ true → T b
-true-T e = rw e tt
 
 -- the whole of x is written
 pub gathered : {f : ℕ → Float} {d s : List Float} {a : ℕ} → Front f (length d) d s a → length d ≤ a → s ≡ list f (length d)

@@ -58,9 +58,10 @@ fn backward_column(rows: &[usize], values: &[f64], q: usize, x: &mut [f64])
     requires { ⌜ Column (now rows) (now values) q (length (now x)) ⌝ }
     ensures { λ _. ⌜ ((S : Shape) (v : List Float) → now (rows .entry) ≡ rowsIn S q → now (values .entry) ≡ valuesIn S v q → now (x .exit) ≡ backwardAt S v (now (x .entry)) q) ⌝ }
 {
+    let d = values[0];
     let t = x[q];
     let z = reduce(&rows[1..], &values[1..], t, &x[..]);
-    x[q] = z / values[0];
+    x[q] = z / d;
 }
 
 // A supernode's w columns from f, rising, its values from off. Returns where the next one's start.

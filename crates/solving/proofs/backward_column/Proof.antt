@@ -9,6 +9,9 @@ use Rattle.solving.proofs.Rules.{rest-is, rest-long, backward-is}
 use Rattle.solving.proofs.backward_column.Statement.{statement}
 use Rattle.solving.proofs.backward_column.Tie as tie
 
+shared-slice-read-d : tie.Need-shared-slice-read-d
+shared-slice-read-d c = omega arith
+
 mul-t : tie.Need-mul-t
 mul-t c = omega arith
 
@@ -35,12 +38,9 @@ part-reduce-end-2 c = omega arith
 
 reduce-requires : tie.Need-reduce-requires
 reduce-requires c κs =
-    let args′ = c .before .before .before .before .before .before .before .args in
-    let pre′ = c .before .before .before .before .before .before .before .pre in
+    let args′ = c .before .before .before .before .before .before .before .before .args in
+    let pre′ = c .before .before .before .before .before .before .before .before .pre in
     (rest-long 1 (args′ .rows .now) ∙ ap (λ k. k - 1) (pre′ .long) ∙ sym (rest-long 1 (args′ .values .now)), λ i l. rw (rest-is 1 (args′ .rows .now), getD-drop 1 (args′ .rows .now) i 0) (pre′ .low (1 + i) (omega (arith, rest-long 1 (args′ .rows .now)))))
-
-shared-slice-read-x : tie.Need-shared-slice-read-x
-shared-slice-read-x c = omega arith
 
 mul-x : tie.Need-mul-x
 mul-x c = omega arith
@@ -55,8 +55,8 @@ returns : tie.Need-returns
 returns c =
     let args′ = c .before .before .before .before .before .before .before .before .before .args in
     let pre′ = c .before .before .before .before .before .before .before .before .before .pre in
-    let reduce′ = c .before .reduce in
+    let reduce′ = c .reduce in
     λ S v e p. backward-is (args′ .rows .now) (args′ .values .now) (args′ .q) (args′ .x .now) [] (omega (arith, pre′ .some, pre′ .long)) (pre′ .inside) S v e p _ (reduce′ .ensures)
 
 pub backward-column-spec : {M : Type 1} → statement M
-backward-column-spec = tie.close (tie.spec mul-t slice-read-t sub-reduce part-reduce-start part-reduce-end sub-reduce-2 part-reduce-start-2 part-reduce-end-2 reduce-requires shared-slice-read-x mul-x slice-write-x same-length returns)
+backward-column-spec = tie.close (tie.spec shared-slice-read-d mul-t slice-read-t sub-reduce part-reduce-start part-reduce-end sub-reduce-2 part-reduce-start-2 part-reduce-end-2 reduce-requires mul-x slice-write-x same-length returns)

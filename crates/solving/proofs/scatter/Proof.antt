@@ -3,7 +3,8 @@ use Prim.Native.Nat.{_-_}
 use native.Mathlib.Omega.{arith}
 use lib.ListN.{length}
 use Rattle.laws.proofs.Permuted.{permuted}
-use Rattle.solving.proofs.Order.{Back, back-start, back-more, back-over, true-T}
+use Rattle.solving.proofs.Order.{Back, back-start, back-more, back-over}
+use Rattle.laws.proofs.Taken.{true-T}
 use Rattle.solving.proofs.scatter.Statement.{statement}
 use Rattle.solving.proofs.scatter.Tie as tie
 

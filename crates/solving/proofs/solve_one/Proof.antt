@@ -5,7 +5,8 @@ use lib.Seq.{length-take-le}
 use borrow.Author.Needs.{needs}
 use Rattle.laws.specs.Lent.{lent}
 use Rattle.laws.proofs.Checked.{ready}
-use Rattle.solving.proofs.Order.{part-solving, part-solved, true-T}
+use Rattle.solving.proofs.Order.{part-solving, part-solved}
+use Rattle.laws.proofs.Taken.{true-T}
 use Rattle.solving.proofs.solve_one.Statement.{statement}
 use Rattle.solving.proofs.solve_one.Tie as tie
 

@@ -3,7 +3,8 @@ use mathlib.Core.Path.{sym, _∙_}
 use native.Mathlib.Omega.{arith}
 use borrow.Author.Needs.{needs}
 use Rattle.laws.proofs.Permuted.{permuted}
-use Rattle.solving.proofs.Order.{solving-at, passes, true-T}
+use Rattle.solving.proofs.Order.{solving-at, passes}
+use Rattle.laws.proofs.Taken.{true-T}
 use Rattle.solving.proofs.solve_parts.Statement.{statement}
 use Rattle.solving.proofs.solve_parts.Tie as tie
 
