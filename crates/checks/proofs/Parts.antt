@@ -1,14 +1,13 @@
 -- The parts of number 11's checks, as the code takes them. Assumes nothing.
 use mathlib.Core.Path.{_≡_, refl, sym, ap, _∙_}
-use mathlib.Core.Bool.{Bool, true, false, not, _&&_}
+use mathlib.Core.Bool.{Bool, true, false, _&&_}
 use mathlib.Core.List.{List, []}
 use Prim.Native.Nat.{ℕ, zero, suc, _+_, _-_, _*_, _≤_, _<_}
 use native.Mathlib.Omega.{arith}
-use native.Mathlib.Numerals.{add-one}
 use lib.Dec.{T, eqb, leb, ltb, ltb→lt}
 use lib.ListN.{length, getD, take, replicate, length-replicate}
 use lib.Seq.{length-take-le, getD-take}
-use borrow.Author.Tests.{lt-ltb, not-true, not-false}
+use borrow.Author.Tests.{lt-ltb}
 use Rattle.statement.specs.Lists.{every, tally}
 use Rattle.statement.specs.Shape.{Shape, first, width, rowsOf, trapezoid}
 use Rattle.statement.specs.Solve.{FactorAreas, shapeIn, fullRecord, permutes, goodSupernode, risingColumns, risingRows, sized, viewable}
@@ -17,15 +16,13 @@ use Rattle.laws.specs.Lent.{laid, Fitted, Walkable}
 use Rattle.laws.proofs.Bools.{and-both}
 use Rattle.laws.proofs.Every.{every-ext, every-all, every-at}
 use Rattle.laws.proofs.Order.{never}
+use Rattle.laws.proofs.Taken.{true-T}
 use Rattle.laws.proofs.Permuted.{permuted}
-use Rattle.laws.proofs.Checked.{columns-few, Roomy, roomy, fitted, risingStarts, rows-parts, walkable}
+use Rattle.laws.proofs.Checked.{cut, columns-few, Roomy, roomy, fitted, risingStarts, rows-parts, walkable}
 
 pub not-so : (b : Bool) → (T b → ⊥) → b ≡ false
 not-so true h = absurd (h tt)
 not-so false h = refl
-
-pub true-T : {b : Bool} → b ≡ true → T b
-true-T e = rw e tt
 
 -- a number that is not below n is named: (b) fails
 pub names-past : (n : ℕ) (q : List ℕ) → n ≤ length q → every (λ x. ltb (getD (take n q) x 0) n) (length (take n q)) ≡ false → permutes n q ≡ false
@@ -49,23 +46,10 @@ pub good-is : {rows : List ℕ} {f w n : ℕ} (S : Shape) (K : ℕ) → rows ≡
 unfolding goodSupernode
 good-is S K e p q r = rw (e, p, q, r)
 
--- the lent parts are what the record's counts cut out
-pub cut : (R : Record) (f : FactorAreas) → laid (R .n) (take (R .supernodes + 1) (f .firsts)) (take (R .supernodes + 1) (f .starts)) (take (R .rows) (f .rows)) ≡ shapeIn R f
-unfolding shapeIn
-cut R f = ap (λ m. laid (R .n) (take m (f .firsts)) (take m (f .starts)) (take (R .rows) (f .rows))) (add-one (R .supernodes))
-
 pub trapezoid-bound : (m w : ℕ) → m ≤ 32768 → trapezoid m w ≤ 32768 * w
 unfolding trapezoid
 trapezoid-bound m zero h = omega arith
 trapezoid-bound m (suc w) h = omega (arith, trapezoid-bound m w h)
-
--- ---- an answer and the branch taken on it
-
-pub no : {r t : Bool} → r ≡ t → not r ≡ true → t ≡ false
-no {r} e h = sym e ∙ not-true r h
-
-pub yes : {r t : Bool} → r ≡ t → not r ≡ false → t ≡ true
-yes {r} e h = sym e ∙ not-false r h
 
 pub zeros-again : {w : List ℕ} (m : ℕ) → w ≡ replicate m 0 → w ≡ replicate (length w) 0
 zeros-again m e = e ∙ ap (λ (n : ℕ). replicate n 0) (sym (ap length e ∙ length-replicate m 0))

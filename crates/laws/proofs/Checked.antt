@@ -6,6 +6,7 @@ use Prim.Native.Nat.{ℕ, zero, suc, _+_, _-_, _≤_, _<_}
 use native.Mathlib.Omega.{arith}
 use native.Mathlib.Nat.{le-refl}
 use native.Mathlib.Decide.{le-ind}
+use native.Mathlib.Numerals.{add-one}
 use lib.Dec.{T, leb, ltb, eqb, leb→le, ltb→lt, eqb→eq}
 use lib.ListN.{length, getD, take}
 use lib.Seq.{length-take-le}
@@ -14,7 +15,7 @@ use Rattle.statement.specs.Input.{columnsLimit}
 use Rattle.statement.specs.Shape.{Shape, supernodes, first, width, height, rowsOf, offset}
 use Rattle.statement.specs.Solve.{FactorAreas, shapeIn, isFull, fullRecord, permutes, risingColumns, goodSupernode, risingRows, sized, viewable, solvable}
 use Rattle.statement.specs.declared.Record.{Record}
-use Rattle.laws.specs.Lent.{Fitted, Framed, Walkable}
+use Rattle.laws.specs.Lent.{laid, Fitted, Framed, Walkable}
 use Rattle.laws.proofs.Bools.{and-both}
 use Rattle.laws.proofs.Every.{every-at}
 use Rattle.laws.proofs.Permuted.{Permuted, permuted}
@@ -171,6 +172,11 @@ fitted R f r h = record {
   starts = length-take-le (suc (R .supernodes)) (f .starts) (omega (arith, r .starts));
   rows = length-take-le (R .rows) (f .rows) (r .rows);
 }
+
+-- the lent parts are what the record's counts cut out
+pub cut : (R : Record) (f : FactorAreas) → laid (R .n) (take (R .supernodes + 1) (f .firsts)) (take (R .supernodes + 1) (f .starts)) (take (R .rows) (f .rows)) ≡ shapeIn R f
+unfolding shapeIn
+cut R f = ap (λ m. laid (R .n) (take m (f .firsts)) (take m (f .starts)) (take (R .rows) (f .rows))) (add-one (R .supernodes))
 
 pub record Viewed (R : Record) (f : FactorAreas) : Type 0 where
   pub roomy : Roomy R f

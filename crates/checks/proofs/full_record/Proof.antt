@@ -2,7 +2,8 @@
 use native.Mathlib.Omega.{arith}
 use borrow.Author.Tests.{le-leb, lt-leb}
 use Rattle.statement.specs.Solve.{fullRecord}
-use Rattle.checks.proofs.Parts.{no, yes, le-more, lt-more}
+use Rattle.checks.proofs.Parts.{le-more, lt-more}
+use Rattle.laws.proofs.Taken.{no, yes}
 use Rattle.checks.proofs.full_record.Statement.{statement}
 use Rattle.checks.proofs.full_record.Tie as tie
 

@@ -4,7 +4,8 @@ use native.Mathlib.Omega.{arith}
 use lib.ListN.{length}
 use lib.Seq.{length-take-le}
 use borrow.Author.Needs.{needs}
-use Rattle.checks.proofs.Parts.{names-past, counted, no, yes, zeros-again, low-of}
+use Rattle.checks.proofs.Parts.{names-past, counted, zeros-again, low-of}
+use Rattle.laws.proofs.Taken.{no, yes}
 use Rattle.checks.proofs.permutes.Statement.{statement}
 use Rattle.checks.proofs.permutes.Tie as tie
 

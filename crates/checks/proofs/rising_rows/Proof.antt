@@ -6,7 +6,7 @@ use lib.ListN.{length}
 use borrow.Author.Tests.{eq-eqb, ne-eqb, not-true, not-false}
 use Rattle.statement.specs.Solve.{risingRows}
 use Rattle.laws.proofs.Checked.{framed}
-use Rattle.checks.proofs.Parts.{true-T}
+use Rattle.laws.proofs.Taken.{true-T}
 use Rattle.checks.proofs.rising_rows.Statement.{statement}
 use Rattle.checks.proofs.rising_rows.Tie as tie
 

@@ -1,6 +1,7 @@
 -- `checks::shaped` meets its contract: (c), (d) and (e). Assumes nothing.
 use mathlib.Core.Path.{_∙_}
-use Rattle.checks.proofs.Parts.{columns-same, walkable-of, no, yes}
+use Rattle.checks.proofs.Parts.{columns-same, walkable-of}
+use Rattle.laws.proofs.Taken.{no, yes}
 use Rattle.checks.proofs.shaped.Statement.{statement}
 use Rattle.checks.proofs.shaped.Tie as tie
 

@@ -3,7 +3,7 @@ use native.Mathlib.Omega.{arith}
 use borrow.Author.Needs.{needs}
 use Rattle.statement.specs.Solve.{solvable}
 use Rattle.laws.proofs.Checked.{viewed}
-use Rattle.checks.proofs.Parts.{true-T, no, yes}
+use Rattle.laws.proofs.Taken.{true-T, no, yes}
 use Rattle.checks.proofs.solvable.Statement.{statement}
 use Rattle.checks.proofs.solvable.Tie as tie
 

@@ -3,7 +3,8 @@ use mathlib.Core.Path.{sym, _∙_}
 use native.Mathlib.Omega.{arith}
 use lib.Seq.{length-take-le}
 use Rattle.statement.specs.Solve.{viewable}
-use Rattle.checks.proofs.Parts.{view-many, room, part-fits, view-rest, no, yes}
+use Rattle.checks.proofs.Parts.{view-many, room, part-fits, view-rest}
+use Rattle.laws.proofs.Taken.{no, yes}
 use Rattle.checks.proofs.viewable.Statement.{statement}
 use Rattle.checks.proofs.viewable.Tie as tie
 

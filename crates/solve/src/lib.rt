@@ -1,0 +1,147 @@
+// Solving with a full factor, and a view of one of its columns: for any record and any areas.
+ghost use mathlib.Core.Path.{_≡_};
+ghost use Prim.Native.Nat.{ℕ, suc, _-_, _≤_, _<_};
+ghost use lib.ListN.{length, getD};
+ghost use Rattle.statement.specs.Shape.{offset};
+ghost use Rattle.statement.specs.Solve.{valuesIn, solve, view};
+ghost use Rattle.laws.specs.Lent.{lent, laid, Walkable};
+ghost use Rattle.solve.specs.Found.{Owned};
+use areas::clear_floats;
+use areas::clear_words;
+use checks::offset;
+use checks::solvable;
+use checks::trapezoid;
+use checks::viewable;
+use solving::solve_one;
+use statement::Answer;
+use statement::Factored;
+use statement::Record;
+
+// The answer, and b solved where it is accepted. Words and floats are left as they fall.
+fn attempt(
+    record: Record,
+    permutation: &[usize],
+    firsts: &[usize],
+    starts: &[usize],
+    rows: &[usize],
+    values: &[f64],
+    words: &mut [usize],
+    floats: &mut [f64],
+    b: &mut [f64],
+) -> Answer
+    ensures { λ r. ⌜ r ≡ solve «record» (lent (now (permutation .entry)) (now (firsts .entry)) (now (starts .entry)) (now (rows .entry)) (now (values .entry))) (now (b .entry)) (length (now (words .entry))) (length (now (floats .entry))) .answer ⌝ }
+    ensures { λ _. ⌜ now (b .exit) ≡ solve «record» (lent (now (permutation .entry)) (now (firsts .entry)) (now (starts .entry)) (now (rows .entry)) (now (values .entry))) (now (b .entry)) (length (now (words .entry))) (length (now (floats .entry))) .b ⌝ }
+{
+    if !solvable(record, permutation, firsts, starts, rows, values, words) {
+        return Answer::NoFactor;
+    }
+    let n = record.n;
+    if b.len() != n {
+        return Answer::WrongSide { length: b.len() };
+    }
+    if words.len() < n {
+        return Answer::ShortArea { area: 7, need: n };
+    }
+    if floats.len() < n {
+        return Answer::ShortArea { area: 8, need: n };
+    }
+    solve_one(record, permutation, firsts, starts, rows, values, floats, b);
+    Answer::Accepted
+}
+
+// Solve for one right side, in place.
+pub fn solve(
+    record: Record,
+    permutation: &[usize],
+    firsts: &[usize],
+    starts: &[usize],
+    rows: &[usize],
+    values: &[f64],
+    words: &mut [usize],
+    floats: &mut [f64],
+    b: &mut [f64],
+) -> Answer
+    ensures { λ r. ⌜ record { answer = r; b = now (b .exit); words = now (words .exit); floats = now (floats .exit) } ≡ solve «record» (lent (now (permutation .entry)) (now (firsts .entry)) (now (starts .entry)) (now (rows .entry)) (now (values .entry))) (now (b .entry)) (length (now (words .entry))) (length (now (floats .entry))) ⌝ }
+{
+    let x = attempt(
+        record,
+        permutation,
+        firsts,
+        starts,
+        rows,
+        values,
+        words,
+        floats,
+        b,
+    );
+    clear_words(words);
+    clear_floats(floats);
+    x
+}
+
+// The supernode that owns column q.
+fn owner(firsts: &[usize], q: usize) -> usize
+    requires { ⌜ ((K : ℕ) → K < length (now firsts) - 1 → getD (now firsts) K 0 < getD (now firsts) (suc K) 0) ⌝ }
+    requires { ⌜ (getD (now firsts) 0 0 ≤ q) × (q < getD (now firsts) (length (now firsts) - 1) 0) ⌝ }
+    ensures { λ r. ⌜ Owned (now (firsts .entry)) q r ⌝ }
+{
+    let mut k: usize = 0;
+    while firsts[k + 1] <= q {
+        k += 1;
+    }
+    k
+}
+
+// Column q of the structure in these lists, diagonal first.
+fn column_part<'a>(
+    n: usize,
+    firsts: &[usize],
+    starts: &[usize],
+    rows: &[usize],
+    values: &'a [f64],
+    q: usize,
+) -> &'a [f64]
+    requires { ⌜ Walkable (laid n (now firsts) (now starts) (now rows)) ⌝ }
+    requires { ⌜ offset (laid n (now firsts) (now starts) (now rows)) (length (now firsts) - 1) ≤ length (now values) ⌝ }
+    requires { ⌜ (n ≤ 32768) × (q < n) ⌝ }
+    ensures { λ r. ⌜ now r ≡ valuesIn (laid n (now (firsts .entry)) (now (starts .entry)) (now (rows .entry))) (now (values .entry)) q ⌝ }
+{
+    let k = owner(firsts, q);
+    let c = q - firsts[k];
+    let m = starts[k + 1] - starts[k];
+    let o = offset(n, firsts, starts, rows, k) + trapezoid(m, c);
+    let e = o + (m - c);
+    &values[o..e]
+}
+
+// The part of the values that is one column, diagonal first; empty on failure or for a column not below n.
+pub fn column<'a>(
+    record: Record,
+    permutation: &[usize],
+    firsts: &[usize],
+    starts: &[usize],
+    rows: &[usize],
+    values: &'a [f64],
+    q: Factored,
+) -> &'a [f64]
+    ensures { λ r. ⌜ now r ≡ view «record» (lent (now (permutation .entry)) (now (firsts .entry)) (now (starts .entry)) (now (rows .entry)) (now (values .entry))) q ⌝ }
+{
+    if !viewable(record, permutation, firsts, starts, rows, values) {
+        return &values[0..0];
+    }
+    let n = record.n;
+    let at = q.0;
+    if at >= n {
+        return &values[0..0];
+    }
+    let many = record.supernodes + 1;
+    let total = record.rows;
+    column_part(
+        n,
+        &firsts[..many],
+        &starts[..many],
+        &rows[..total],
+        values,
+        at,
+    )
+}
