@@ -1,0 +1,2 @@
+pub mod Linked
+pub mod Verdicts
