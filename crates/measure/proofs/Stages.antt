@@ -14,8 +14,8 @@ use Rattle.statement.specs.Fill.{entries}
 use Rattle.statement.specs.Answers.{number, test, orElse, answered}
 use Rattle.statement.specs.Areas.{Need, needs, short}
 use Rattle.statement.specs.Calls.{inputFault, factorNeeds}
-use Rattle.laws.proofs.Exactly.{well-exactly, input-accepted}
-use Rattle.laws.proofs.Solvable.{short-met}
+use Rattle.laws.proofs.Faults.{no-fault, input-accepted}
+use Rattle.laws.proofs.Stages.{short-passed}
 use Rattle.statement.specs.declared.Answer.{Answer}
 use Rattle.statement.specs.declared.Answer.the-variants.{Accepted, ShortArea, OverCap}
 use Rattle.statement.specs.declared.Room.{Room}
@@ -51,7 +51,7 @@ module _ (M : Matrix) (cap : ℕ) (r : Room) where
     well = input-accepted M .0 a
 
     no-input : inputFault M ≡ none
-    no-input = well-exactly M .0 well
+    no-input = no-fault M well
 
     pub at-room : answered (short (factorNeeds M r)) ≢ Accepted → answered (short (factorNeeds M r)) ≡ answered (measureFault M cap r)
     unfolding measureFault
@@ -75,14 +75,7 @@ module _ (M : Matrix) (cap : ℕ) (r : Room) where
 
       pub long : (M .n + 1 ≤ r .groups) × (2 * M .n ≤ r .tasks) × (M .n ≤ r .top)
       unfolding factorNeeds needs
-      long =
-          let a = short-met _ _ enough in
-          let b = short-met _ _ (a .1) in
-          let c = short-met _ _ (b .1) in
-          let d = short-met _ _ (c .1) in
-          let f = short-met _ _ (d .1) in
-          let g = short-met _ _ (f .1) in
-          (d .0, f .0, g .0)
+      long = let m = short-passed _ .0 enough in (m 3 (omega arith), m 4 (omega arith), m 5 (omega arith))
 
   -- refused with a: nothing is said of the areas
   pub stopped : (x : Totals) (a : Answer) {groups₀ tasks₀ top₀ groups tasks top : List ℕ} → x .answer ≡ a → a ≢ Accepted → a ≡ answered (measureFault M cap r) → Measured M cap r x groups₀ tasks₀ top₀ groups tasks top

@@ -1,0 +1,71 @@
+-- All tests of the structure, and what stands in the areas once they pass. Definitions only.
+use mathlib.Core.Path.{_≡_}
+use mathlib.Core.List.{List, _++_, map}
+use mathlib.Core.Option.{Option, none}
+use Prim.Native.Nat.{ℕ, _*_}
+use lib.ListN.{length, replicate}
+use Rattle.statement.specs.Lists.{list, sum}
+use Rattle.statement.specs.Input.{Matrix, WellFormed, pattern}
+use Rattle.statement.specs.Fill.{parent, count, entries}
+use Rattle.statement.specs.Postorder as postorder
+use Rattle.statement.specs.Shape.{Shape, supernodes}
+use Rattle.statement.specs.Supernodes.{updates, updateStarts}
+use Rattle.statement.specs.Answers.{test, orElse, answered}
+use Rattle.statement.specs.Areas.{short, held}
+use Rattle.statement.specs.Calls.{analysis, factorNeeds, factorLater}
+use Rattle.statement.specs.declared.Answer.{Answer}
+use Rattle.statement.specs.declared.Answer.the-variants.{Accepted, WrongStructure}
+use Rattle.statement.specs.declared.Room.{Room}
+use Rattle.laws.specs.Numbered.{shape}
+use Rattle.laws.proofs.Postorder.{pos}
+use Rattle.measure.specs.Sized.{measureFault}
+use Rattle.updates.specs.Scan.{triple}
+use Rattle.clearing.specs.Zeroed.{noTriple}
+use Rattle.survey.specs.declared.Findings.{Findings}
+
+-- 1, 2, 3, 4, 5 (areas 1 to 8), 6, 5 (areas 9 to 11), 12
+unfoldable pub structureFault : Matrix → ℕ → Room → Option Answer
+structureFault M cap r =
+    orElse (measureFault M cap r) (
+    orElse (short (factorLater (analysis M) r)) (
+    test (analysis M .differs) WrongStructure none))
+
+-- the structure in factor numbering
+abbrev pub shapeFor : Matrix → Shape
+shapeFor M = shape (pattern M) (M .n)
+
+-- the areas hold it; tasks has the places of the columns and then the supernodal parents; top and words are scratch
+pub record Laid (M : Matrix) (cap : ℕ) (r : Room) (x : Findings) (permutation firsts starts groups tasks nine : List ℕ) (ten : List (List ℕ)) : Type 0 where
+  pub calm : structureFault M cap r ≡ none
+  pub well : WellFormed M
+  pub room : short (factorNeeds M r) ≡ none
+  pub later : short (factorLater (analysis M) r) ≡ none
+  pub many-supernodes : x .supernodes ≡ supernodes (shapeFor M)
+  pub many-rows : x .rows ≡ length (shapeFor M .rows)
+  pub many-updates : x .updates ≡ length (updates (shapeFor M))
+  pub entries-are : x .entries ≡ entries (pattern M) (M .n)
+  pub work-is : x .work ≡ sum (λ j. count (pattern M) (M .n) j * count (pattern M) (M .n) j) (M .n)
+  pub one : permutation ≡ held (r .permutation) 0 (postorder.permutation (pattern M) (M .n))
+  pub two : firsts ≡ held (r .firsts) 0 (shapeFor M .firsts)
+  pub three : starts ≡ held (r .starts) 0 (shapeFor M .starts)
+  pub four : groups ≡ held (r .groups) 0 (updateStarts (shapeFor M))
+  pub rest : List ℕ
+  pub five : tasks ≡ list (pos (parent (pattern M) (M .n)) (M .n)) (M .n) ++ (shapeFor M .parents ++ rest)
+  pub nine-holds : nine ≡ held (r .rows) 0 (shapeFor M .rows)
+  pub ten-holds : ten ≡ held (r .updates) noTriple (map triple (updates (shapeFor M)))
+
+pub record Surveyed (M : Matrix) (cap : ℕ) (r : Room) (x : Findings) (permutation firsts starts groups tasks nine : List ℕ) (ten : List (List ℕ)) : Type 0 where
+  pub ans : x .answer ≡ answered (structureFault M cap r)
+  pub go : x .answer ≡ Accepted → Laid M cap r x permutation firsts starts groups tasks nine ten
+
+-- how long the areas are, and that they are zero
+pub record Blank (r : Room) (permutation firsts starts groups tasks top words nine : List ℕ) (ten : List (List ℕ)) : Type 0 where
+  pub one : permutation ≡ replicate (r .permutation) 0
+  pub two : firsts ≡ replicate (r .firsts) 0
+  pub three : starts ≡ replicate (r .starts) 0
+  pub four : groups ≡ replicate (r .groups) 0
+  pub five : tasks ≡ replicate (r .tasks) 0
+  pub six : top ≡ replicate (r .top) 0
+  pub seven : words ≡ replicate (r .words) 0
+  pub nine-holds : nine ≡ replicate (r .rows) 0
+  pub ten-holds : ten ≡ replicate (r .updates) noTriple

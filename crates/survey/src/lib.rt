@@ -1,0 +1,98 @@
+// The structure of a matrix, from the input to the areas: every test of the analysis, and then the lists.
+ghost use Rattle.statement.specs.Input.{matrix};
+ghost use Rattle.survey.specs.Laid.{Surveyed, Blank};
+ghost use mathlib.Core.Path.{_≡_};
+use analysis::build;
+use measure::measure;
+use statement::Answer;
+use statement::Room;
+
+// The answer, and what was counted.
+pub struct Findings {
+    pub answer: Answer,
+    pub supernodes: usize,
+    pub rows: usize,
+    pub updates: usize,
+    pub entries: usize,
+    pub work: usize,
+}
+
+fn refused(answer: Answer) -> Findings
+    ensures { λ r. ⌜ r .answer ≡ answer ⌝ }
+{
+    Findings {
+        answer,
+        supernodes: 0,
+        rows: 0,
+        updates: 0,
+        entries: 0,
+        work: 0,
+    }
+}
+
+// The areas are zero before. Where it is accepted they hold the structure, tasks the places of the columns and then the
+// supernodal parents; top and words are scratch.
+pub fn survey(
+    n: usize,
+    input_starts: &[usize],
+    input_rows: &[usize],
+    input_values: &[f64],
+    cap: usize,
+    room: Room,
+    permutation: &mut [usize],
+    firsts: &mut [usize],
+    starts: &mut [usize],
+    groups: &mut [usize],
+    tasks: &mut [usize],
+    top: &mut [usize],
+    words: &mut [usize],
+    rows: &mut [usize],
+    updates: &mut [[usize; 3]],
+) -> Findings
+    requires { ⌜ Blank room (now permutation) (now firsts) (now starts) (now groups) (now tasks) (now top) (now words) (now rows) (now updates) ⌝ }
+    ensures { λ x. ⌜ Surveyed (matrix n (now («input_starts» .entry)) (now («input_rows» .entry)) (now («input_values» .entry))) cap room x (now (permutation .exit)) (now (firsts .exit)) (now (starts .exit)) (now (groups .exit)) (now (tasks .exit)) (now (rows .exit)) (now (updates .exit)) ⌝ }
+{
+    let t = measure(
+        n,
+        input_starts,
+        input_rows,
+        input_values,
+        cap,
+        room,
+        groups,
+        tasks,
+        top,
+    );
+    let a = t.answer;
+    let Answer::Accepted = a else {
+        return refused(a);
+    };
+    let c = build(
+        n,
+        t.entries,
+        room,
+        input_starts,
+        input_rows,
+        permutation,
+        firsts,
+        starts,
+        groups,
+        tasks,
+        top,
+        words,
+        rows,
+        updates,
+    );
+    let b = c.answer;
+    let Answer::Accepted = b else {
+        return refused(b);
+    };
+    Findings {
+        answer: Answer::Accepted,
+        supernodes: c.supernodes,
+        rows: c.rows,
+        updates: c.updates,
+        entries: t.entries,
+        work: t.work,
+    }
+}
