@@ -36,8 +36,8 @@ fn reduce(rows: &[usize], values: &[f64], z: f64, x: &[f64]) -> f64
     let mut t = z;
     let mut i: usize = 0;
     while i < rows.len() {
-        let r = rows[i];
-        t = t - values[i] * x[r];
+        let row = rows[i];
+        t = t - values[i] * x[row];
         i += 1;
     }
     t
