@@ -6,7 +6,7 @@ ghost use Prim.Native.Nat.{ℕ, suc, _+_, _-_, _^_, _≤_, _<_};
 ghost use lib.ListN.{length, getD, replicate};
 ghost use lib.Dec.{eqb, leb, ltb};
 ghost use Rattle.statement.specs.Lists.{every, tally};
-ghost use Rattle.statement.specs.Shape.{Shape, supernodes, first, width, rowsOf, trapezoid, offset};
+ghost use Rattle.statement.specs.Shape.{Shape, first, width, rowsOf, trapezoid, offset};
 ghost use Rattle.statement.specs.Solve.{fullRecord, permutes, risingColumns, goodSupernode, risingRows, sized, viewable, solvable};
 ghost use Rattle.laws.specs.Lent.{lent, laid, Fitted, Framed, Walkable};
 use answers::is_full;

@@ -32,10 +32,10 @@ fn attempt(
     ensures { λ r. ⌜ r ≡ solve «record» (lent (now (permutation .entry)) (now (firsts .entry)) (now (starts .entry)) (now (rows .entry)) (now (values .entry))) (now (b .entry)) (length (now (words .entry))) (length (now (floats .entry))) .answer ⌝ }
     ensures { λ _. ⌜ now (b .exit) ≡ solve «record» (lent (now (permutation .entry)) (now (firsts .entry)) (now (starts .entry)) (now (rows .entry)) (now (values .entry))) (now (b .entry)) (length (now (words .entry))) (length (now (floats .entry))) .b ⌝ }
 {
+    let n = record.n;
     if !solvable(record, permutation, firsts, starts, rows, values, words) {
         return Answer::NoFactor;
     }
-    let n = record.n;
     if b.len() != n {
         return Answer::WrongSide { length: b.len() };
     }

@@ -7,7 +7,7 @@ ghost use lib.ListN.{length, getD};
 ghost use lib.Ieee.{Float};
 ghost use Rattle.statement.specs.Lists.{place, list};
 ghost use Rattle.statement.specs.Input.{+0};
-ghost use Rattle.statement.specs.Shape.{Shape, supernodes, first, trapezoid, offset};
+ghost use Rattle.statement.specs.Shape.{Shape, trapezoid, offset};
 ghost use Rattle.statement.specs.Solve.{shapeIn, permutes, solvable, rowsIn, valuesIn, lessBelow, lessAbove, forwardAt, forward, backwardAt, backward, solution};
 ghost use Rattle.laws.specs.Lent.{lent, laid, Walkable};
 ghost use Rattle.solving.specs.Walk.{Column, Block, Supernode, Solving};
@@ -36,8 +36,8 @@ fn reduce(rows: &[usize], values: &[f64], z: f64, x: &[f64]) -> f64
     let mut t = z;
     let mut i: usize = 0;
     while i < rows.len() {
-        let r = rows[i];
-        t = t - values[i] * x[r];
+        let row = rows[i];
+        t = t - values[i] * x[row];
         i += 1;
     }
     t

@@ -17,11 +17,11 @@ abbrev μ-loop : tie.MeasureT-loop
 loop-holds : tie.Need-loop-holds Inv-loop μ-loop
 loop-holds c = (omega arith, refl)
 
-mul-r : tie.Need-mul-r Inv-loop μ-loop
-mul-r c = omega arith
+mul-row : tie.Need-mul-row Inv-loop μ-loop
+mul-row c = omega arith
 
-shared-slice-read-r : tie.Need-shared-slice-read-r Inv-loop μ-loop
-shared-slice-read-r c = omega arith
+shared-slice-read-row : tie.Need-shared-slice-read-row Inv-loop μ-loop
+shared-slice-read-row c = omega arith
 
 mul-t : tie.Need-mul-t Inv-loop μ-loop
 mul-t c = omega arith
@@ -61,4 +61,4 @@ returns c =
     sym (loop′ .inv .1 ∙ above-over (args′ .rows .now) (args′ .values .now) (loop′ .i) (omega arith) (args′ .x .now) (loop′ .t))
 
 pub reduce-spec : {M : Type 1} → statement M
-reduce-spec = tie.close (tie.spec Inv-loop μ-loop loop-holds mul-r shared-slice-read-r mul-t shared-slice-read-t mul-t-2 shared-slice-read-t-2 add-i loop-less loop-again returns)
+reduce-spec = tie.close (tie.spec Inv-loop μ-loop loop-holds mul-row shared-slice-read-row mul-t shared-slice-read-t mul-t-2 shared-slice-read-t-2 add-i loop-less loop-again returns)
