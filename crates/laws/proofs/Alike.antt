@@ -3,7 +3,7 @@ use mathlib.Core.Path.{_≡_, refl, sym, ap, _∙_}
 use mathlib.Core.Bool.{Bool, true, false, cond}
 use mathlib.Core.List.{List, [], _∷_, _++_}
 use mathlib.Core.Logic.{_≢_}
-use mathlib.Core.Option.{Option, none, some}
+use mathlib.Core.Option.{Option, none, some, Option·none-ne-some}
 use Prim.Native.Nat.{ℕ, _+_, _≤_}
 use native.Mathlib.Omega.{arith}
 use borrow.Author.Tests.{le-ltb}
@@ -30,9 +30,6 @@ short-append (x ∷ l) m = go (ltb (x .length) (x .need)) (short-append l m)
     go true i = refl
     go false i = i
 
-apart : {A B : Type 0} {x : A} → none ≡ some x → B
-apart h = absurd (let z : _≡_ {A = ℕ} 0 1 = cc in omega arith)
-
 -- the tests that both make, in turn; factor's own stand between and after them
 same-tests : (i n d v z : Option Answer) (c e : Bool) (x y a : Answer) → (i ≡ none → e ≡ false)
     → orElse i (orElse n (test c x (orElse d (test e y none)))) ≡ some a
@@ -43,7 +40,7 @@ same-tests none (some b) d v z c e x y a f h = h
 same-tests none none d v z true e x y a f h = h
 same-tests none none (some b) v z false e x y a f h = h
 same-tests none none none v z false true x y a f h = absurd (let q : true ≡ false = f refl in let w : _≡_ {A = ℕ} 0 1 = cc in omega arith)
-same-tests none none none v z false false x y a f h = apart h
+same-tests none none none v z false false x y a f h = absurd (Option·none-ne-some _ h)
 
 module _ (M : Matrix) (cap : ℕ) (o : Order) (l : List ℕ) (t : ℕ) (r : Room) where
   -- area 8 suffices, so that no test of factor's comes before one that both make
