@@ -3,7 +3,7 @@ use mathlib.Core.Path.{_≡_, refl, sym, ap, _∙_}
 use mathlib.Core.Bool.{true, false}
 use mathlib.Core.List.{List, [], _∷_, _++_}
 use mathlib.Core.Logic.{_⊎_, inl, inr, ⊎-elim, _≢_}
-use mathlib.Core.Option.{Option, none, some}
+use mathlib.Core.Option.{Option, none, some, Option·none-ne-some}
 use Prim.Native.Nat.{ℕ, zero, suc, _+_, _-_, _*_, _/_, _%_, _^_, _<_, _≤_}
 use native.Mathlib.Nat.{not-suc-le-zero, le-of-suc-le-suc, mod-eq-of-lt, div-div-eq-div-mul, mod-one, div-one, div-add-mod', mul-assoc, mod-lt, mul-add-mod-self-right, lt-div-mul-add, zero-mul, pow-le-pow-right}
 use native.Mathlib.Numerals.{add-one}
@@ -78,9 +78,6 @@ same-digit b d e p q = cc
 pub no-digit : (b r d : ℕ) → isSome (hexValue b) ≡ false → hexValue b ≡ some d → r ≡ d
 no-digit b r d h e = absurd (let z : true ≡ false = rw e at h in let y : _≡_ {A = ℕ} 0 1 = cc in omega arith)
 
-apart : {A B : Type 0} {x : A} → none ≡ some x → B
-apart h = absurd (let z : _≡_ {A = ℕ} 0 1 = cc in omega arith)
-
 pub same-value : (a b : ℕ) → _≡_ {A = Option ℕ} (some a) (some b) → a ≡ b
 same-value a b e = cc
 
@@ -113,7 +110,7 @@ value-any a c (b ∷ l) = ⊎-elim (λ e. rw (value-stop a b l e, value-stop c b
 value-above : (a x : ℕ) (l : List ℕ) → valueFrom a l ≡ some x → x / 16 ^ length l ≡ a
 unfolding valueFrom
 value-above a x [] e = let q : a ≡ x = cc in rw (← q) (div-one a)
-value-above a x (b ∷ l) e = ⊎-elim (λ n. apart (sym (value-stop a b l n) ∙ e)) (λ w.
+value-above a x (b ∷ l) e = ⊎-elim (λ n. absurd (Option·none-ne-some _ (sym (value-stop a b l n) ∙ e))) (λ w.
     let i = value-above (a * 16 + w .0) x l (sym (value-digit a b (w .0) l (w .1)) ∙ e) in
     let p = div-div-eq-div-mul x (16 ^ length l) 16 in
     let h = w .2 in
@@ -141,7 +138,7 @@ mod-more a d k h =
 value-alone : (k a x : ℕ) (l : List ℕ) → valueFrom a l ≡ some x → valueFrom (a % 16 ^ k) l ≡ some (x % 16 ^ (k + length l))
 unfolding valueFrom
 value-alone k a x [] e = let q : a ≡ x = cc in rw (← q) (ap (λ (t : ℕ). some (a % 16 ^ t)) (let z : k ≡ k + 0 = omega arith in z))
-value-alone k a x (b ∷ l) e = ⊎-elim (λ n. apart (sym (value-stop a b l n) ∙ e)) (λ w.
+value-alone k a x (b ∷ l) e = ⊎-elim (λ n. absurd (Option·none-ne-some _ (sym (value-stop a b l n) ∙ e))) (λ w.
     let i = value-alone (suc k) (a * 16 + w .0) x l (sym (value-digit a b (w .0) l (w .1)) ∙ e) in
     let m = mod-more a (w .0) k (w .2) in
     let s : suc k + length l ≡ k + suc (length l) = omega arith in
@@ -151,7 +148,7 @@ value-alone k a x (b ∷ l) e = ⊎-elim (λ n. apart (sym (value-stop a b l n) 
 value-both : (a x : ℕ) (s t : List ℕ) → valueFrom a (s ++ t) ≡ some x → (y : ℕ) × (valueFrom a s ≡ some y) × (valueFrom y t ≡ some x)
 unfolding valueFrom
 value-both a x [] t e = (a, refl, e)
-value-both a x (b ∷ s) t e = ⊎-elim (λ n. apart (sym (value-stop a b (s ++ t) n) ∙ e)) (λ w.
+value-both a x (b ∷ s) t e = ⊎-elim (λ n. absurd (Option·none-ne-some _ (sym (value-stop a b (s ++ t) n) ∙ e))) (λ w.
     let i = value-both (a * 16 + w .0) x s t (sym (value-digit a b (w .0) (s ++ t) (w .1)) ∙ e) in
     (i .0, value-digit a b (w .0) s (w .1) ∙ i .1, i .2)) (hex-cases b)
 
@@ -194,7 +191,7 @@ module _ (s : List ℕ) (i : ℕ) (h : i < length s) where
 
   -- v and what is left stand for x, and d is the next digit if it is one
   pub value-next : (v d x : ℕ) → ((e : ℕ) → hexValue (getD s i 0) ≡ some e → d ≡ e) → valueFrom v (drop i s) ≡ some x → valueFrom (v * 16 + d) (drop (i + 1) s) ≡ some x
-  value-next v d x f e = ⊎-elim (λ n. apart (sym (ap (valueFrom v) (drop-cons s i 0 h) ∙ value-stop v (getD s i 0) (drop (suc i) s) n) ∙ e)) (λ w. ap (λ (t : ℕ). valueFrom (v * 16 + t) (drop (i + 1) s)) (f (w .0) (w .1)) ∙ sym (value-step v (w .0) (w .1)) ∙ e) (hex-cases (getD s i 0))
+  value-next v d x f e = ⊎-elim (λ n. absurd (Option·none-ne-some _ (sym (ap (valueFrom v) (drop-cons s i 0 h) ∙ value-stop v (getD s i 0) (drop (suc i) s) n) ∙ e))) (λ w. ap (λ (t : ℕ). valueFrom (v * 16 + t) (drop (i + 1) s)) (f (w .0) (w .1)) ∙ sym (value-step v (w .0) (w .1)) ∙ e) (hex-cases (getD s i 0))
 
 -- i digits stand for a number below 16 ^ i
 pub value-more : (v d i : ℕ) → v < 16 ^ i → d < 16 → v * 16 + d < 16 ^ (i + 1)

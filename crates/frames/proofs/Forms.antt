@@ -12,13 +12,13 @@ use lib.Seq.{getD-append-seam}
 use lib.Ieee.{ofBits, binary64}
 use Rattle.statement.specs.Supernodes.{below}
 use Rattle.statement.specs.Job.{Frame, begin, stored, side, end, Phase, unbegun, storing, siding, ended, Frames, noFrames, begun, withStored, withSide, finished, takes}
+use Rattle.laws.proofs.Demand.{and-l, and-r}
 use Rattle.frames.specs.Held.{stageOf, lastColumn, Form, beginOk, storedOk, isOpen, sideOk, endOk}
 
 -- ---- tests
 
 pub and-both : (a b : Bool) → a && b ≡ true → (a ≡ true) × (b ≡ true)
-and-both true b h = (refl, h)
-and-both false b h = absurd (let z : _≡_ {A = ℕ} 0 1 = cc in omega arith)
+and-both a b h = (and-l a b h, and-r a b h)
 
 pub begin-says : (stage n : ℕ) → beginOk stage n ≡ true → (stage ≡ 0) × (n ≤ 128)
 begin-says stage n e = let h = and-both (eqb stage 0) (leb n 128) e in (eqb-true stage 0 (h .0), leb-true n 128 (h .1))

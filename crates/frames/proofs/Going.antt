@@ -148,11 +148,11 @@ going-start text st ro va ri p e room b =
       room = room;
     })
 
+pub fault-whole : {k : ℕ} {j : Frames} → fault k ≡ whole j → ⊥
+fault-whole h = let z : _≡_ {A = ℕ} 0 1 = cc in omega arith
+
 fault-scanned : (g : Reading) (st ro : List ℕ) (va ri : List Float) (k : ℕ) → g ≡ fault k → Scanned g (Fault k) st ro va ri
-fault-scanned g st ro va ri k e = record { answer = sym (ap answerOf e); kept = λ j f. absurd (apart j (sym e ∙ f)) }
-  where
-    apart : (j : Frames) → fault k ≡ whole j → ⊥
-    apart j h = let z : _≡_ {A = ℕ} 0 1 = cc in omega arith
+fault-scanned g st ro va ri k e = record { answer = sym (ap answerOf e); kept = λ j f. absurd (fault-whole (sym e ∙ f)) }
 
 whole-scanned : (g : Reading) (st ro : List ℕ) (va ri : List Float) (p : Progress) (j : Frames) → g ≡ whole j → Holds p st ro va ri j → p .stage ≡ 3 → Scanned g (Whole (p .n) (p .cap) (p .count)) st ro va ri
 unfolding matrixOf

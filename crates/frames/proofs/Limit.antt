@@ -3,7 +3,7 @@
 use mathlib.Core.Path.{_≡_, refl, sym, ap, subst, _∙_}
 use mathlib.Core.Bool.{Bool, true, false, _&&_, cond}
 use mathlib.Core.List.{List, [], _∷_, _++_}
-use mathlib.Core.Option.{Option, none, some}
+use mathlib.Core.Option.{Option, none, some, Option·none-ne-some}
 use Prim.Native.Nat.{ℕ, zero, suc, _+_, _*_, _≤_}
 use native.Mathlib.Omega.{arith}
 use borrow.Author.Tests.{eqb-true}
@@ -22,9 +22,6 @@ sizeOf (stored column row bits) = 26
 sizeOf (side position bits) = 22
 sizeOf end = 2
 
-apart : {A B : Type 0} {x : A} → none ≡ some x → B
-apart h = absurd (let z : _≡_ {A = ℕ} 0 1 = cc in omega arith)
-
 sized : (k m : ℕ) (t : Bool) (g f : Frame) (o : Option Frame) → sizeOf g ≡ m → (o ≡ some f → k ≡ sizeOf f) → cond (eqb k m && t) (some g) o ≡ some f → k ≡ sizeOf f
 sized k m t g f o s h e = go (eqb k m && t) refl e
   where
@@ -34,14 +31,14 @@ sized k m t g f o s h e = go (eqb k m && t) refl e
 
 frame-sized : (k x : ℕ) (f : Frame) → frame k x ≡ some f → k ≡ sizeOf f
 unfolding frame
-frame-sized k x f e = sized k 14 _ _ f _ refl (sized k 26 _ _ f _ refl (sized k 22 _ _ f _ refl (sized k 2 _ _ f _ refl apart))) e
+frame-sized k x f e = sized k 14 _ _ f _ refl (sized k 26 _ _ f _ refl (sized k 22 _ _ f _ refl (sized k 2 _ _ f _ refl (λ q. absurd (Option·none-ne-some _ q))))) e
 
 line-sized : (l : List ℕ) (f : Frame) → frameOf l ≡ some f → length l ≡ sizeOf f
 unfolding frameOf
 line-sized l f e = go (valueFrom 0 l) e
   where
     go : (o : Option ℕ) → (elim o [ none ↦ none | some x ↦ frame (length l) x ]) ≡ some f → length l ≡ sizeOf f
-    go none q = apart q
+    go none q = absurd (Option·none-ne-some _ q)
     go (some x) q = frame-sized (length l) x f q
 
 -- ---- the bytes of the lines so far
@@ -103,7 +100,7 @@ unfolding next
 next-takes j l i e = go (frameOf l) refl e
   where
     go : (o : Option Frame) → frameOf l ≡ o → (elim o [ none ↦ none | some f ↦ takes (j .phase) j f ]) ≡ some i → (f : Frame) × (frameOf l ≡ some f) × (takes (j .phase) j f ≡ some i)
-    go none p q = apart q
+    go none p q = absurd (Option·none-ne-some _ q)
     go (some f) p q = (f, p, q)
 
 next-counted : (j : Frames) (u : ℕ) (l : List ℕ) (i : Frames) → Counted j u → next j l ≡ some i → Counted i (u + length l + 1)

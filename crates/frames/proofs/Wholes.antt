@@ -16,26 +16,23 @@ use Rattle.statement.specs.Job.{Phase, unbegun, storing, siding, ended, Frames,
 use Rattle.laws.proofs.Ranks.{list-length}
 use Rattle.frames.specs.Held.{stageOf, Form, readingOf, Kept}
 use Rattle.frames.proofs.Forms.{none-form, takes-form}
-use Rattle.frames.proofs.Going.{going, read-lf, read-on}
+use Rattle.frames.proofs.Going.{going, read-lf, read-on, fault-whole}
 use Rattle.frames.proofs.Limit.{next-takes}
-
-apart : {B : Type 0} {k : ℕ} {i : Frames} → fault k ≡ whole i → B
-apart h = absurd (let z : _≡_ {A = ℕ} 0 1 = cc in omega arith)
 
 abbrev Ended : Frames → Type 0
 Ended i = Form i × (stageOf (i .phase) ≡ 3)
 
 end-ended : (h : Phase) (j : Frames) (k : ℕ) (cur : List ℕ) (i : Frames) → j .phase ≡ h → Form j → atEnd h j k cur ≡ whole i → Ended i
 unfolding atEnd
-end-ended unbegun j k cur i p g e = apart e
-end-ended storing j k cur i p g e = apart e
-end-ended siding j k cur i p g e = apart e
+end-ended unbegun j k cur i p g e = absurd (fault-whole e)
+end-ended storing j k cur i p g e = absurd (fault-whole e)
+end-ended siding j k cur i p g e = absurd (fault-whole e)
 end-ended ended j k [] i p g e = let q : j ≡ i = cc in subst Ended q (g, ap stageOf p)
-end-ended ended j k (b ∷ cur) i p g e = apart e
+end-ended ended j k (b ∷ cur) i p g e = absurd (fault-whole e)
 
 line-ended : (j : Frames) (k : ℕ) (cur t : List ℕ) (i : Frames) (o : Option Frames) → next j cur ≡ o → Form j
     → ((x : Frames) → Form x → read t x (suc k) [] ≡ whole i → Ended i) → going o k t ≡ whole i → Ended i
-line-ended j k cur t i none e g f h = apart h
+line-ended j k cur t i none e g f h = absurd (fault-whole h)
 line-ended j k cur t i (some x) e g f h = let w = next-takes j cur x e in f x (takes-form j (w .0) x g (w .2)) h
 
 byte-ended : (j : Frames) (k : ℕ) (cur : List ℕ) (b : ℕ) (t : List ℕ) (i : Frames) (d : Bool) → eqb b 10 ≡ d → Form j
