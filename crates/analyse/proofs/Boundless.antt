@@ -48,18 +48,24 @@ module _ (M : Matrix) (cap : ℕ) (r : Room) (f : r .floats ≡ ample) (v : r .v
   unfolding factorLater
   second w = short-end (later (analysis M) r) (valuesNeed (analysis M .entries) r) (unfold analysis in omega (arith, few w))
 
+  abbrev run : Option Answer → Option Answer → Option Answer → Option Answer
+  run a b c = orElse a (orElse b (test (ltb cap (analysis M .entries)) (OverCap (analysis M .entries) cap) (orElse c (test (analysis M .differs) WrongStructure none))))
+
+  flat : structureFault M cap r ≡ run (inputFault M) (short (factorNeeds M r)) (short (factorLater (analysis M) r))
+  unfolding structureFault measureFault analysis
+  flat = in-one-run (inputFault M) (short (factorNeeds M r)) _ _ _
+
+  whole : analyseFault M cap r (analysis M) ≡ run (inputFault M) (short (needs (M .n) (rowsLength M) r)) (short (later (analysis M) r))
+  unfolding analyseFault
+  whole = refl
+
+  early : (a : Answer) → inputFault M ≡ some a → (b c b′ c′ : Option Answer) → run (inputFault M) b c ≡ run (inputFault M) b′ c′
+  unfolding orElse
+  early a e b c b′ c′ = rw e
+
   pub same-fault : structureFault M cap r ≡ analyseFault M cap r (analysis M)
-  same-fault = go (inputFault M) refl
+  same-fault = flat ∙ go (inputFault M) refl ∙ sym whole
     where
-      abbrev run : Option Answer → Option Answer → Option Answer → Option Answer
-      run a b c = orElse a (orElse b (test (ltb cap (analysis M .entries)) (OverCap (analysis M .entries) cap) (orElse c (test (analysis M .differs) WrongStructure none))))
-
-      flat : structureFault M cap r ≡ run (inputFault M) (short (factorNeeds M r)) (short (factorLater (analysis M) r))
-      flat = unfold structureFault measureFault analysis in in-one-run (inputFault M) (short (factorNeeds M r)) _ _ _
-
-      whole : analyseFault M cap r (analysis M) ≡ run (inputFault M) (short (needs (M .n) (rowsLength M) r)) (short (later (analysis M) r))
-      whole = unfold analyseFault in refl
-
-      go : (i : Option Answer) → inputFault M ≡ i → structureFault M cap r ≡ analyseFault M cap r (analysis M)
-      go (some a) e = flat ∙ unfold orElse in rw e refl ∙ sym whole
-      go none e = let w = well-of M e in flat ∙ ap₂ (run (inputFault M)) (first w) (second w) ∙ sym whole
+      go : (i : Option Answer) → inputFault M ≡ i → run (inputFault M) (short (factorNeeds M r)) (short (factorLater (analysis M) r)) ≡ run (inputFault M) (short (needs (M .n) (rowsLength M) r)) (short (later (analysis M) r))
+      go (some a) e = early a e _ _ _ _
+      go none e = let w = well-of M e in ap₂ (run (inputFault M)) (first w) (second w)

@@ -1,2 +1,3 @@
 pub mod Zeros
 pub mod Surveying
+pub mod Reading
