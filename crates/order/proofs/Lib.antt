@@ -1,0 +1,4 @@
+pub mod Offs
+pub mod Turns
+pub mod States
+pub mod Runs
