@@ -2,3 +2,4 @@ pub mod Offs
 pub mod Turns
 pub mod States
 pub mod Runs
+pub mod Whole
