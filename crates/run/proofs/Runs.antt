@@ -15,8 +15,8 @@ use Rattle.statement.specs.Run.{blocked, settle, fate, run}
 use Rattle.laws.specs.Lower.{lowerValue}
 use Rattle.laws.proofs.Loops.{run-append}
 use Rattle.areas.proofs.Part as part
-use Rattle.order.specs.Turn.{under, Due, Is, Turned, fresh, Ran}
-use Rattle.order.proofs.Turns.{later}
+use Rattle.run.specs.Turn.{under, Due, Is, Turned, fresh, Ran}
+use Rattle.run.proofs.Turns.{later}
 
 drop-same : (v w : List ℕ) (e x : ℕ) → e ≤ x → drop e w ≡ drop e v → drop x w ≡ drop x v
 drop-same v w e x h q = sym (part.mid-is 0 w x) ∙ later v w e x h q

@@ -9,7 +9,7 @@ ghost use Rattle.statement.specs.Shape.{offset};
 ghost use Rattle.laws.specs.Lower.{lowerValue};
 ghost use Rattle.step.specs.Ready.{lent, Rows};
 ghost use Rattle.step.specs.Answer.{Stepped};
-ghost use Rattle.order.specs.Turn.{At, under, Due, Turned, Ran};
+ghost use Rattle.run.specs.Turn.{At, under, Due, Turned, Ran};
 use statement::Factored;
 use step::StepAnswer;
 

@@ -1,14 +1,14 @@
 -- `order::offsets` meets its contract. After k: the first k offsets stand, and `at` is the next. Assumes nothing.
 use Rattle.statement.specs.Shape.{trapezoid, height, width}
-use Rattle.order.proofs.Offs as up
+use Rattle.run.proofs.Offs as up
 use Rattle.step.proofs.Gather as gather
 use Rattle.step.specs.Ready.{lent}
 use Rattle.areas.proofs.Front as front
 use native.Mathlib.Omega.{arith}
 use Prim.Native.Nat.{_-_}
 use mathlib.Core.Path.{ap₂, _∙_}
-use Rattle.order.proofs.offsets.Statement.{statement}
-use Rattle.order.proofs.offsets.Tie as tie
+use Rattle.run.proofs.offsets.Statement.{statement}
+use Rattle.run.proofs.offsets.Tie as tie
 
 abbrev Inv-loop : tie.InvT-loop
 Inv-loop ns n first starts rows offs₀ k₀ at₀ offs k at = up.Upto (lent n first starts rows) ns offs₀ offs k at

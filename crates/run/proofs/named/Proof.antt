@@ -1,7 +1,7 @@
 -- `order::named` meets its contract. Assumes nothing.
 use native.Mathlib.Omega.{arith}
-use Rattle.order.proofs.named.Statement.{statement}
-use Rattle.order.proofs.named.Tie as tie
+use Rattle.run.proofs.named.Statement.{statement}
+use Rattle.run.proofs.named.Tie as tie
 
 returns : tie.Need-returns
 returns c =

@@ -21,7 +21,7 @@ use Rattle.step.specs.Ready.{lent}
 use Rattle.step.proofs.Link.{stepped-alike}
 use Rattle.step.specs.Answer.{answerOf, leaves, Stepped}
 use Rattle.statement.specs.declared.Factored.{Factored}
-use Rattle.order.specs.Turn.{under, Due, Flagged, Is, Turned}
+use Rattle.run.specs.Turn.{under, Due, Flagged, Is, Turned}
 
 -- children come before their parent
 closed : (S : Shape) (h : List ℕ) (J d : ℕ) → ((K : ℕ) → J ≤ K → K < J + d → K < parentOf S K) → blocked S h J (J + d) ≡ blocked S h J J

@@ -1,5 +1,5 @@
 -- `order::one` meets its contract. The positions of the rows, then the step. Assumes nothing.
-use Rattle.order.proofs.Turns as turns
+use Rattle.run.proofs.Turns as turns
 use Rattle.step.proofs.Gather as gather
 use Rattle.step.specs.Ready.{lent}
 use Rattle.statement.specs.Shape.{width}
@@ -8,8 +8,8 @@ use native.Mathlib.Omega.{arith}
 use Prim.Native.Nat.{suc}
 use borrow.Author.Needs.{needs}
 use mathlib.Core.Path.{refl}
-use Rattle.order.proofs.one.Statement.{statement}
-use Rattle.order.proofs.one.Tie as tie
+use Rattle.run.proofs.one.Statement.{statement}
+use Rattle.run.proofs.one.Tie as tie
 
 mul-r0 : tie.Need-mul-r0
 mul-r0 c =

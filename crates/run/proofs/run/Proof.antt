@@ -1,11 +1,11 @@
 -- `order::run` meets its contract. After p names the values, the least column and the flags are those of the run. Assumes nothing.
-use Rattle.order.proofs.Runs as runs
+use Rattle.run.proofs.Runs as runs
 use lib.ListN.{getD}
 use native.Mathlib.Omega.{arith}
 use Prim.Native.Nat.{ℕ, _-_, _≤_}
 use mathlib.Core.Bool.{cond}
-use Rattle.order.proofs.run.Statement.{statement}
-use Rattle.order.proofs.run.Tie as tie
+use Rattle.run.proofs.run.Statement.{statement}
+use Rattle.run.proofs.run.Tie as tie
 
 abbrev Inv-loop : tie.InvT-loop
 Inv-loop plain list t ns n a first starts rows groups upd ob ab rb pb words₀ floats₀ values₀ least₀ p₀ words floats values least p = (p ≤ t) × runs.Sofar n first starts rows ns a groups upd ob ab rb pb words₀ floats₀ values₀ (λ p. cond plain p (getD list p 0)) words floats values least p

@@ -19,7 +19,7 @@ use Rattle.laws.proofs.Agree.{Alike, offset-agree, run-agree}
 use Rattle.step.specs.Ready.{lent}
 use Rattle.step.specs.Laid.{Laid}
 use Rattle.step.proofs.Link as link
-use Rattle.order.specs.Turn.{under, Due, fresh, Ran}
+use Rattle.run.specs.Turn.{under, Due, fresh, Ran}
 
 module _ (S : Shape) (b : Built S) (s : Spans S) (F St R U : List ℕ) (upd : List (List ℕ)) (l : Laid S F St R U upd) where
   many : suc (supernodes S) ≤ length U

@@ -2,8 +2,8 @@
 use native.Mathlib.Omega.{arith}
 use borrow.Author.Needs.{needs}
 use mathlib.Core.Path.{refl}
-use Rattle.order.proofs.failed.Statement.{statement}
-use Rattle.order.proofs.failed.Tie as tie
+use Rattle.run.proofs.failed.Statement.{statement}
+use Rattle.run.proofs.failed.Tie as tie
 
 mul-words : tie.Need-mul-words
 mul-words c = search needs

@@ -16,7 +16,7 @@ use Rattle.step.specs.Ready.{row, Rows}
 use Rattle.step.specs.Answer.{Ready, Stepped}
 use Rattle.step.specs.declared.StepAnswer.{StepAnswer}
 use Rattle.step.proofs.Gather as gather
-use Rattle.order.specs.Turn.{At}
+use Rattle.run.specs.Turn.{At}
 
 -- past e, words that are the same from e on
 pub later : (v w : List ℕ) (e x : ℕ) → e ≤ x → drop e w ≡ drop e v → part.mid 0 w x ≡ drop x v

@@ -1,12 +1,12 @@
 -- `order::turn` meets its contract. Skipped, done or failed. Assumes nothing.
-use Rattle.order.proofs.States as states
+use Rattle.run.proofs.States as states
 use Rattle.laws.specs.Lower.{lowerValue}
 use lib.ListN.{take, drop, length-set}
 use native.Mathlib.Omega.{arith}
 use borrow.Author.Needs.{needs}
 use mathlib.Core.Path.{refl}
-use Rattle.order.proofs.turn.Statement.{statement}
-use Rattle.order.proofs.turn.Tie as tie
+use Rattle.run.proofs.turn.Statement.{statement}
+use Rattle.run.proofs.turn.Tie as tie
 
 add-p : tie.Need-add-p
 add-p c =
