@@ -1,5 +1,5 @@
 -- The step reads first columns, rows, earlier stretches and entries of A on and below the diagonal, and nothing else. Assumes nothing.
-use mathlib.Core.Path.{_≡_, refl, sym, ap, _∙_, subst}
+use mathlib.Core.Path.{_≡_, refl, sym, ap, ap₂, _∙_, subst}
 use mathlib.Core.Bool.{true}
 use mathlib.Core.List.{List, [], _∷_, map}
 use Prim.Native.Nat.{ℕ, zero, suc, _+_, _-_, _≤_, _<_}
@@ -8,11 +8,11 @@ use native.Mathlib.Decide.{decLt}
 use lib.ListN.{length, getD, drop, length-drop, List·getD-eq-default}
 use lib.Seq.{getD-drop}
 use lib.Ieee.{Float, nan, binary64, div}
-use Rattle.statement.specs.Shape.{Shape, supernodes, first, width, height, rowsOf, trapezoid, size, offset, stretch, put, zeros}
+use Rattle.statement.specs.Shape.{Shape, supernodes, parentOf, first, width, height, rowsOf, trapezoid, size, offset, stretch, put, zeros}
 use Rattle.statement.specs.Lists.{has, place}
 use Rattle.statement.specs.Root.{root}
 use Rattle.statement.specs.Rules.{Out, made, broke, andThen, look, earlier, within, entry, column, extend, grow, step}
-use Rattle.statement.specs.Run.{State, blocked, fateOf, settle, fate, run}
+use Rattle.statement.specs.Run.{State, Fate, done, failed, skipped, blocked, fateOf, settle, fate, run}
 use Rattle.laws.specs.Built.{Built}
 use Rattle.laws.proofs.Local.{cond-and}
 use Rattle.laws.proofs.Entry.{place-lt, getD-place}
@@ -141,3 +141,27 @@ module _ (S : Shape) (b : Built S) (A B : ℕ → ℕ → Float) (e : (i j : ℕ
   run-entries s [] = refl
   run-entries s (J ∷ l) =
       ap (λ o. run S A (settle S s J (fateOf (blocked S (s .halted) J J) o)) l) (step-entries (s .values) J) ∙ run-entries (settle S s J (fate S B s J)) l
+
+-- two structures with the same first columns, rows and parents below N
+module _ (S T : Shape) (N : ℕ) (a : (J : ℕ) → J < N → Alike S T J) (parents : (K : ℕ) → K < N → parentOf S K ≡ parentOf T K) where
+  blocked-agree : (h : List ℕ) (J K : ℕ) → K ≤ N → blocked S h J K ≡ blocked T h J K
+  unfolding blocked
+  blocked-agree h J zero k = refl
+  blocked-agree h J (suc K) k = rw (blocked-agree h J K (omega arith), parents K k)
+
+  settle-agree : (s : State) (J : ℕ) → J < N → (f : Fate) → settle S s J f ≡ settle T s J f
+  unfolding settle
+  settle-agree s J k (done x) = rw (put-agree S T J (a J k) (s .values) x)
+  settle-agree s J k (failed c) = rw (zeros-agree S T J (a J k), put-agree S T J (a J k) (s .values) (zeros T J))
+  settle-agree s J k skipped = refl
+
+  pub run-agree : (A : ℕ → ℕ → Float) (s : State) (l : List ℕ) → ((p : ℕ) → p < length l → getD l p 0 < N) → run S A s l ≡ run T A s l
+  unfolding run fate
+  run-agree A s [] h = refl
+  run-agree A s (J ∷ l) h =
+      let k = h 0 (omega arith) in
+      ap (λ z. run S A z l) (
+      settle-agree s J k (fate S A s J) ∙
+      ap (settle T s J) (ap₂ fateOf (blocked-agree (s .halted) J J (omega arith)) (step-agree S T J (a J k) A A (s .values) (s .values) (λ K j q lo hi m. stretch-agree S T J (a J k) (s .values) K (omega arith)) (λ c w. refl) (λ c i w m. refl)))
+      ) ∙
+      run-agree A (settle T s J (fate T A s J)) l (λ p q. h (suc p) (omega arith))

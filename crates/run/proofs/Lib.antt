@@ -1,0 +1,5 @@
+pub mod Offs
+pub mod Turns
+pub mod States
+pub mod Runs
+pub mod Whole

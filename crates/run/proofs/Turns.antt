@@ -1,0 +1,97 @@
+-- One supernode's turn: the positions of its rows are set among the words, and what is only read stays. Assumes nothing.
+use mathlib.Core.Path.{_≡_, sym, ap, _∙_}
+use mathlib.Core.List.{List, _++_}
+use Prim.Native.Nat.{ℕ, suc, _+_, _-_, _≤_, _<_}
+use native.Mathlib.Omega.{arith}
+use native.Mathlib.Nat.{le-refl}
+use lib.ListN.{length, getD, take, drop, List·getD-append}
+use lib.Seq.{drop-drop}
+use lib.Ieee.{Float}
+use Rattle.statement.specs.Shape.{Shape, height}
+use Rattle.laws.specs.Lower.{lowerValue}
+use Rattle.areas.specs.Touch.{Touched}
+use Rattle.areas.proofs.Part as part
+use Rattle.areas.proofs.Middle as middle
+use Rattle.step.specs.Ready.{row, Rows}
+use Rattle.step.specs.Answer.{Ready, Stepped}
+use Rattle.step.specs.declared.StepAnswer.{StepAnswer}
+use Rattle.step.proofs.Gather as gather
+use Rattle.run.specs.Turn.{At}
+
+-- past e, words that are the same from e on
+pub later : (v w : List ℕ) (e x : ℕ) → e ≤ x → drop e w ≡ drop e v → part.mid 0 w x ≡ drop x v
+later v w e x h q = part.mid-is 0 w x ∙ back w ∙ ap (drop (x - e)) q ∙ sym (back v)
+  where
+    back : (u : List ℕ) → drop x u ≡ drop (x - e) (drop e u)
+    back u = ap (λ k. drop k u) (let z : x ≡ e + (x - e) = omega arith in z) ∙ sym (drop-drop (x - e) e u)
+
+module _ (S : Shape) (J a : ℕ) (groups : List ℕ) (upd : List (List ℕ)) (ob ab rb : ℕ) (words : List ℕ) (floats : List Float) (vlen : ℕ)
+    (t : At S J a groups upd ob ab rb words floats vlen) where
+  abbrev e : ℕ
+  e = S .n + S .n + 1
+
+  pub from : S .n + 1 ≤ e
+  from = omega arith
+
+  pub room : e ≤ length words
+  room = omega (arith, t .past .0, t .inside .0)
+
+  pub lent-is : length (middle.lent words (S .n + 1) e from room) ≡ S .n
+  lent-is = omega (arith, middle.lent-length words (S .n + 1) e from room)
+
+  module _ (pl : List ℕ) (p : Touched 0 (middle.lent words (S .n + 1) e from room) pl (getD (S .starts) (J + 1) 0 - getD (S .starts) J 0) (λ i. getD (S .rows) (getD (S .starts) J 0 + i) 0) (λ i. i)) where
+    abbrev now : List ℕ
+    now = middle.back words (S .n + 1) e from room pl
+
+    long : length pl ≡ e - (S .n + 1)
+    long = p .size ∙ middle.lent-length words (S .n + 1) e from room
+
+    pub kept : length now ≡ length words
+    kept = middle.back-length words (S .n + 1) e from room pl long
+
+    pub front : take (S .n + 1) now ≡ take (S .n + 1) words
+    front = middle.back-take words (S .n + 1) e from room pl long
+
+    pub rest : drop e now ≡ drop e words
+    rest = middle.back-drop words (S .n + 1) e from room pl long
+
+    pub at-ob : part.mid 0 now ob ≡ drop ob words
+    at-ob = later words now e ob (t .past .0) rest
+
+    pub at-ab : part.mid 0 now ab ≡ drop ab words
+    at-ab = later words now e ab (t .past .1) rest
+
+    pub at-rb : part.mid 0 now rb ≡ drop rb words
+    at-rb = later words now e rb (t .past .2) rest
+
+    places : part.mid 0 now (S .n + 1) ≡ pl ++ drop e words
+    places = part.mid-is 0 now (S .n + 1) ∙ middle.back-from words (S .n + 1) e from room pl long
+
+    b : Rows S (suc J)
+    b = t .shape
+
+    -- J's rows know their positions
+    pub placed : (i : ℕ) → i < height S J → getD (part.mid 0 now (S .n + 1)) (row S J i) 0 ≡ i
+    placed i h =
+        ap (λ l. getD l (row S J i) 0) places ∙
+        List·getD-append pl (drop e words) 0 (row S J i) (omega (arith, long, t .shape .below J i (le-refl (suc J)) h)) ∙
+        ap (λ x. getD pl x 0) (sym (gather.row-is S b J i (le-refl (suc J)) h)) ∙
+        p .inside i (omega (arith, gather.height-code S b J (le-refl (suc J))))
+
+    pub ready : Ready S J a (part.mid 0 now ob) upd (getD groups J 0) (getD groups (J + 1) 0) (part.mid 0 now ab) (part.mid 0 now rb) floats vlen (part.mid 0 now (S .n + 1))
+    ready =
+        record {
+          shape = t .shape;
+          updates = t .updates;
+          offsets = rw at-ob (t .offsets);
+          lower = rw (at-ab, at-rb) (t .lower);
+          pattern = rw (at-ab, at-rb) (t .pattern);
+          values = t .values;
+          work = t .work;
+          placed = placed;
+          places = omega (arith, part.mid-length 0 now (S .n + 1), kept, room);
+        }
+
+    pub stepped : (l r : List ℕ) (v old new : List Float) (x : StepAnswer) → l ≡ part.mid 0 now ab → r ≡ part.mid 0 now rb →
+        Stepped S (lowerValue l r v) J old new x → Stepped S (lowerValue (drop ab words) (drop rb words) v) J old new x
+    stepped l r v old new x e₁ e₂ q = rw (← at-ab, ← at-rb, ← e₁, ← e₂) q
