@@ -1,1 +1,3 @@
 pub mod Boundless
+pub mod Outcomes
+pub mod Asking

@@ -1,3 +1,4 @@
 pub mod Zeros
 pub mod Surveying
 pub mod Reading
+pub mod Clearing

@@ -1,10 +1,10 @@
 -- What the areas of a surveyed matrix hold, as the phases after it ask. Assumes nothing.
-use mathlib.Core.Path.{_≡_, refl, sym, ap, _∙_}
+use mathlib.Core.Path.{_≡_, ap, _∙_}
 use mathlib.Core.List.{List, _++_}
 use mathlib.Core.Option.{none}
 use Prim.Native.Nat.{ℕ, _+_, _*_, _-_, _≤_}
 use native.Mathlib.Omega.{arith}
-use lib.ListN.{length, take, drop, replicate}
+use lib.ListN.{length, drop, replicate}
 use lib.Seq.{drop-at}
 use Rattle.statement.specs.Lists.{list}
 use Rattle.statement.specs.Input.{Matrix, WellFormed, pattern, rowsLength}
