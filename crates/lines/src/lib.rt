@@ -22,7 +22,7 @@ fn hex_digit(d: u64) -> u8
 }
 
 // Puts k digits of x at the places from `at`, highest first.
-fn put_hex(out: &mut [u8], at: usize, k: usize, x: u64)
+pub fn put_hex(out: &mut [u8], at: usize, k: usize, x: u64)
     requires { ⌜ (at + k ≤ length (now out)) × (k ≤ 16) ⌝ }
     ensures { λ _. ⌜ now (out .exit) ≡ placed (now (out .entry)) at (hex k x) ⌝ }
 {
