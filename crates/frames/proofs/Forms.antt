@@ -12,7 +12,7 @@ use lib.Seq.{getD-append-seam}
 use lib.Ieee.{ofBits, binary64}
 use Rattle.statement.specs.Supernodes.{below}
 use Rattle.statement.specs.Job.{Frame, begin, stored, side, end, Phase, unbegun, storing, siding, ended, Frames, noFrames, begun, withStored, withSide, finished, takes}
-use Rattle.laws.proofs.Demand.{and-l, and-r}
+use Rattle.laws.proofs.Bools.{and-l, and-r}
 use Rattle.frames.specs.Held.{stageOf, lastColumn, Form, beginOk, storedOk, isOpen, sideOk, endOk}
 
 -- ---- tests
