@@ -1,3 +1,2 @@
 pub mod Boundless
 pub mod Outcomes
-pub mod Asking

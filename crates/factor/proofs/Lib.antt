@@ -1,2 +1,4 @@
 pub mod Eliminating
 pub mod Ordering
+pub mod Outcomes
+pub mod Handing

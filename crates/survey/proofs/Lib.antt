@@ -2,3 +2,5 @@ pub mod Zeros
 pub mod Surveying
 pub mod Reading
 pub mod Clearing
+pub mod Settling
+pub mod Asking

@@ -1,5 +1,5 @@
 -- `analyse::analyse_in` meets its contract: call by call. Assumes nothing.
-use Rattle.analyse.proofs.Asking.{split-ready, split-given}
+use Rattle.survey.proofs.Asking.{split-ready, split-given}
 use Rattle.analyse.proofs.Outcomes.{fills-refused, fills-accepted}
 use Rattle.survey.proofs.Zeros.{zeros-length}
 use Rattle.room.proofs.Short.{accepted-first}
