@@ -1,0 +1,268 @@
+// The damages, one at a time.
+use crate::damage::Damage;
+use crate::damage::fewer;
+use crate::damage::more;
+use crate::dish::Dish;
+use crate::dish::record;
+use crate::lending::Lending;
+use crate::trial::solved;
+use crate::trial::viewed;
+use statement::Stage;
+
+// Accepted.
+pub fn sound() {
+    solved(Dish::Six, Damage::Nothing, Lending::Exact);
+    solved(Dish::Six, Damage::Nothing, Lending::Loose);
+    solved(Dish::Three, Damage::Nothing, Lending::Exact);
+    solved(Dish::Three, Damage::Nothing, Lending::Loose);
+    solved(Dish::Four, Damage::Nothing, Lending::Exact);
+    solved(Dish::Bare, Damage::Nothing, Lending::Exact);
+    // values may be any bits
+    solved(Dish::Six, Damage::NoValues, Lending::Exact);
+}
+
+pub fn states() {
+    solved(Dish::Six, Damage::State(Stage::Empty), Lending::Exact);
+    solved(Dish::Six, Damage::State(Stage::Analysed), Lending::Exact);
+    solved(Dish::Six, Damage::State(Stage::Partial), Lending::Exact);
+    solved(Dish::Bare, Damage::State(Stage::Empty), Lending::Exact);
+}
+
+fn count(dish: Dish, which: usize, to: usize) {
+    solved(
+        dish,
+        Damage::Count {
+            which: which,
+            to: to,
+        },
+        Lending::Exact,
+    );
+    solved(
+        dish,
+        Damage::Count {
+            which: which,
+            to: to,
+        },
+        Lending::Loose,
+    );
+}
+
+// A count of c that is one more, one less, or absurd.
+fn counted(dish: Dish, which: usize, c: usize) {
+    count(dish, which, more(c));
+    count(dish, which, fewer(c));
+    count(dish, which, 0x8000_0000_0000_0000);
+    count(dish, which, 0xffff_ffff_ffff_ffff);
+}
+
+fn all_counts(dish: Dish) {
+    let sound = record(dish);
+    counted(dish, 1, sound.n);
+    counted(dish, 2, sound.supernodes);
+    counted(dish, 3, sound.rows);
+    counted(dish, 4, sound.entries);
+}
+
+pub fn counts() {
+    all_counts(Dish::Six);
+    all_counts(Dish::Three);
+    // the largest n, and one above it
+    count(Dish::Six, 1, 32768);
+    count(Dish::Six, 1, 32769);
+    // accepted: solve does not ask the others
+    count(Dish::Six, 5, 0xffff_ffff_ffff_ffff);
+    // a supernode with more columns than rows
+    solved(Dish::Wide, Damage::Nothing, Lending::Exact);
+}
+
+fn each_short(dish: Dish) {
+    solved(dish, Damage::Nothing, Lending::Short(1));
+    solved(dish, Damage::Nothing, Lending::Short(2));
+    solved(dish, Damage::Nothing, Lending::Short(3));
+    solved(dish, Damage::Nothing, Lending::Short(9));
+    solved(dish, Damage::Nothing, Lending::Short(11));
+}
+
+pub fn short_areas() {
+    each_short(Dish::Six);
+    each_short(Dish::Three);
+    solved(Dish::Bare, Damage::Nothing, Lending::Short(2));
+    solved(Dish::Bare, Damage::Nothing, Lending::Short(3));
+}
+
+fn word(dish: Dish, area: usize, at: usize, to: usize) {
+    solved(
+        dish,
+        Damage::Word {
+            area: area,
+            at: at,
+            to: to,
+        },
+        Lending::Exact,
+    );
+}
+
+fn swapped(dish: Dish, area: usize, at: usize) {
+    solved(dish, Damage::Swapped { area: area, at: at }, Lending::Exact);
+}
+
+// (b)
+pub fn permutations() {
+    // a repeat
+    word(Dish::Six, 1, 1, 0);
+    word(Dish::Six, 1, 5, 4);
+    word(Dish::Three, 1, 0, 2);
+    word(Dish::Four, 1, 0, 0);
+    // an entry not below n
+    word(Dish::Six, 1, 5, 6);
+    word(Dish::Six, 1, 0, 0xffff_ffff_ffff_ffff);
+    word(Dish::Three, 1, 2, 3);
+    // accepted: still a permutation
+    swapped(Dish::Six, 1, 0);
+    swapped(Dish::Four, 1, 0);
+}
+
+// (c)
+pub fn first_columns() {
+    // do not begin with 0
+    word(Dish::Six, 2, 0, 1);
+    word(Dish::Three, 2, 0, 1);
+    // do not rise
+    word(Dish::Six, 2, 1, 0);
+    word(Dish::Six, 2, 2, 1);
+    word(Dish::Six, 2, 3, 5);
+    swapped(Dish::Six, 2, 2);
+    // do not end with n
+    word(Dish::Six, 2, 6, 5);
+    word(Dish::Six, 2, 6, 7);
+    word(Dish::Six, 2, 6, 0xffff_ffff_ffff_ffff);
+    word(Dish::Three, 2, 1, 2);
+    word(Dish::Three, 2, 1, 4);
+}
+
+// (d), row starts
+pub fn row_starts() {
+    // do not begin with 0
+    word(Dish::Six, 3, 0, 1);
+    word(Dish::Three, 3, 0, 1);
+    // fall
+    word(Dish::Six, 3, 3, 3);
+    word(Dish::Six, 3, 1, 5);
+    word(Dish::Six, 3, 5, 0xffff_ffff_ffff_ffff);
+    swapped(Dish::Six, 3, 3);
+    // do not end with the count
+    word(Dish::Six, 3, 6, 10);
+    word(Dish::Six, 3, 6, 12);
+    word(Dish::Three, 3, 1, 2);
+    word(Dish::Three, 3, 1, 4);
+    // rise, but give a supernode another's rows
+    word(Dish::Six, 3, 1, 1);
+    word(Dish::Six, 3, 1, 3);
+}
+
+// (d), rows
+pub fn structure_rows() {
+    // swapped, or twice the same
+    swapped(Dish::Six, 9, 0);
+    swapped(Dish::Three, 9, 1);
+    word(Dish::Six, 9, 1, 0);
+    word(Dish::Three, 9, 2, 1);
+    // not below n
+    word(Dish::Six, 9, 1, 6);
+    word(Dish::Six, 9, 9, 0xffff_ffff_ffff_ffff);
+    word(Dish::Six, 9, 10, 6);
+    // do not begin with the own columns
+    word(Dish::Six, 9, 2, 0);
+    word(Dish::Six, 9, 0, 1);
+    word(Dish::Six, 9, 10, 4);
+    word(Dish::Three, 9, 2, 3);
+    // accepted: another row, with which all of (d) holds
+    word(Dish::Six, 9, 1, 4);
+}
+
+// A full record of the old dish on cleared areas.
+pub fn cleared() {
+    solved(Dish::Six, Damage::Cleared, Lending::Exact);
+    solved(Dish::Six, Damage::Cleared, Lending::Loose);
+    solved(Dish::Three, Damage::Cleared, Lending::Exact);
+    solved(Dish::Four, Damage::Cleared, Lending::Exact);
+    // accepted: cleared areas are what a factor of nothing leaves
+    solved(Dish::Bare, Damage::Cleared, Lending::Exact);
+}
+
+// 10 and 5.
+pub fn other_numbers() {
+    solved(Dish::Six, Damage::Nothing, Lending::Short(12));
+    solved(Dish::Six, Damage::Nothing, Lending::LongSide);
+    solved(Dish::Bare, Damage::Nothing, Lending::LongSide);
+    solved(Dish::Six, Damage::Nothing, Lending::Short(7));
+    solved(Dish::Six, Damage::Nothing, Lending::Short(8));
+    solved(Dish::Three, Damage::Nothing, Lending::Short(7));
+    solved(Dish::Three, Damage::Nothing, Lending::Short(8));
+    solved(Dish::Six, Damage::Nothing, Lending::ShortScratch);
+}
+
+// 11 before 10 before 5.
+pub fn order() {
+    solved(Dish::Six, Damage::Cleared, Lending::ShortAll);
+    solved(Dish::Six, Damage::State(Stage::Partial), Lending::ShortAll);
+    solved(
+        Dish::Six,
+        Damage::Word {
+            area: 1,
+            at: 1,
+            to: 0,
+        },
+        Lending::ShortAll,
+    );
+    solved(
+        Dish::Six,
+        Damage::Word {
+            area: 1,
+            at: 1,
+            to: 0,
+        },
+        Lending::Short(7),
+    );
+    solved(Dish::Six, Damage::Nothing, Lending::ShortAll);
+    solved(Dish::Three, Damage::Nothing, Lending::ShortAll);
+}
+
+fn whole(dish: Dish) {
+    viewed(dish, Damage::Nothing, Lending::Exact, 0);
+    viewed(dish, Damage::Nothing, Lending::Exact, 1);
+    viewed(dish, Damage::Nothing, Lending::Exact, 2);
+    viewed(dish, Damage::Nothing, Lending::Exact, 3);
+    viewed(dish, Damage::Nothing, Lending::Exact, 4);
+    viewed(dish, Damage::Nothing, Lending::Exact, 5);
+    viewed(dish, Damage::Nothing, Lending::Exact, 6);
+    viewed(dish, Damage::Nothing, Lending::Loose, 0xffff_ffff_ffff_ffff);
+}
+
+// The view.
+pub fn columns() {
+    whole(Dish::Six);
+    whole(Dish::Three);
+    viewed(Dish::Bare, Damage::Nothing, Lending::Loose, 0);
+    // it does not ask (b)
+    viewed(
+        Dish::Six,
+        Damage::Word {
+            area: 1,
+            at: 1,
+            to: 0,
+        },
+        Lending::Exact,
+        0,
+    );
+    // but asks the rest
+    viewed(Dish::Six, Damage::Nothing, Lending::Short(1), 0);
+    viewed(Dish::Six, Damage::State(Stage::Partial), Lending::Exact, 0);
+    viewed(Dish::Six, Damage::Cleared, Lending::Exact, 0);
+    viewed(
+        Dish::Three,
+        Damage::Count { which: 4, to: 5 },
+        Lending::Exact,
+        1,
+    );
+}
