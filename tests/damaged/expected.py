@@ -2,7 +2,7 @@
 """Writes what crates/damaged must print, from document 01 alone: python3 tests/damaged/expected.py > crates/damaged/stdout
 
 Each case names the number that it must get, by reasoning; 01's rules (a) to (e) and 'Solving' are written out below as
-well, in f64, each operation rounded once, and the two must agree.
+well, in f64, each operation rounded once, and the two must agree. Only 'every word' goes by the rules alone.
 """
 import copy
 import struct
@@ -277,6 +277,12 @@ word("six", 9, 0, 1)
 word("six", 9, 10, 4)
 word("three", 9, 2, 3)
 word("six", 9, 1, 4, 0)
+# every word: by the rules alone
+for dish, area, many, top in (("six", 1, 6, 8), ("six", 2, 7, 9), ("six", 3, 7, 14), ("six", 9, 11, 8), ("three", 1, 3, 5),
+                              ("three", 2, 4, 6), ("three", 3, 4, 6), ("three", 9, 3, 5), ("four", 1, 4, 6), ("four", 9, 7, 6)):
+    for at in range(many):
+        numbers = [answer(*made(dish, ("word", area, at, to), "exact"))[0] for to in range(top)]
+        print("%s area %d at %d is 0 and up: %s" % (dish, area, at, " ".join(map(str, numbers))))
 # the strut
 solved("six", ("cleared",), "exact", 11)
 solved("six", ("cleared",), "loose", 11)

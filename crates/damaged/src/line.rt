@@ -52,7 +52,7 @@ fn say_count(which: usize) {
     }
 }
 
-fn say_area(area: usize, at: usize) {
+pub fn say_area(area: usize, at: usize) {
     say(b" area");
     say_number(area);
     say(b" at");
@@ -96,9 +96,7 @@ pub fn say_lending(lending: Lending) {
     }
 }
 
-// The number and the two details.
-pub fn say_answer(answer: Answer) {
-    say_number(answers::number(answer));
+pub fn say_details(answer: Answer) {
     say_number(answers::first_detail(answer));
     say_number(answers::second_detail(answer));
 }

@@ -1,4 +1,6 @@
 // Damaged records and areas, walked through solve and the view: a line for each damage, with the number answered.
+// What it must write was worked out from document 01 alone, the solutions by the operations of 'Solving' in f64, by
+// tests/damaged/expected.py.
 mod damage;
 mod dish;
 mod lending;
@@ -15,6 +17,7 @@ fn main() {
     walk::first_columns();
     walk::row_starts();
     walk::structure_rows();
+    walk::every_word();
     walk::cleared();
     walk::other_numbers();
     walk::order();

@@ -1,4 +1,4 @@
-// One solve, and one view, on fresh copies of a dish's areas with one damage done to them.
+// One call of solve or of the view, on fresh copies of a dish's areas with one damage done to them.
 use crate::damage::Damage;
 use crate::damage::harm_values;
 use crate::damage::harm_words;
@@ -15,9 +15,9 @@ use crate::lending::Lending;
 use crate::lending::lent;
 use crate::line::say;
 use crate::line::say_all;
-use crate::line::say_answer;
 use crate::line::say_bits;
 use crate::line::say_damage;
+use crate::line::say_details;
 use crate::line::say_dish;
 use crate::line::say_flag;
 use crate::line::say_lending;
@@ -25,17 +25,31 @@ use crate::line::say_number;
 use crate::line::sum;
 use crate::line::zero_floats;
 use crate::line::zero_words;
+use answers::number;
 use solve::column;
 use solve::solve;
+use statement::Answer;
 use statement::Factored;
 use statement::Record;
 
-// The scratch after a call, and the right side: its sum before and after, and the solution where there is one.
-fn say_after(before: u64, accepted: bool, words: &[usize], floats: &[f64], b: &[f64]) {
+// What is called: solve, with all that can be said of it or with the number alone, or the view of a column.
+pub enum Call {
+    Solving,
+    Numbering,
+    Viewing(usize),
+}
+
+// The answer; the scratch; the right side's sum before and after, and the solution where there is one.
+fn say_after(whole: bool, answer: Answer, before: u64, words: &[usize], floats: &[f64], b: &[f64]) {
+    say_number(number(answer));
+    if !whole {
+        return;
+    }
+    say_details(answer);
     say_flag(zero_words(words), zero_floats(floats));
     say_bits(before);
     say_bits(sum(b));
-    if accepted {
+    if number(answer) == 0 {
         say(b" :");
         say_all(b);
     }
@@ -43,6 +57,7 @@ fn say_after(before: u64, accepted: bool, words: &[usize], floats: &[f64], b: &[
 }
 
 fn solve_and_say(
+    whole: bool,
     harmed: Record,
     permutation: &[usize],
     firsts: &[usize],
@@ -65,11 +80,82 @@ fn solve_and_say(
         floats,
         b,
     );
-    say_answer(answer);
-    say_after(before, answers::number(answer) == 0, words, floats, b);
+    say_after(whole, answer, before, words, floats, b);
+}
+
+// The length of the part, and the sum of its bits.
+fn view_and_say(
+    harmed: Record,
+    permutation: &[usize],
+    firsts: &[usize],
+    starts: &[usize],
+    rows: &[usize],
+    values: &[f64],
+    q: usize,
+) {
+    let part = column(
+        harmed,
+        permutation,
+        firsts,
+        starts,
+        rows,
+        values,
+        Factored(q),
+    );
+    say_number(part.len());
+    say_bits(sum(part));
+    say(b"\n");
+}
+
+fn call_and_say(
+    call: Call,
+    harmed: Record,
+    permutation: &[usize],
+    firsts: &[usize],
+    starts: &[usize],
+    rows: &[usize],
+    values: &[f64],
+    words: &mut [usize],
+    floats: &mut [f64],
+    b: &mut [f64],
+) {
+    match call {
+        Call::Solving => {
+            solve_and_say(
+                true,
+                harmed,
+                permutation,
+                firsts,
+                starts,
+                rows,
+                values,
+                words,
+                floats,
+                b,
+            );
+        }
+        Call::Numbering => {
+            solve_and_say(
+                false,
+                harmed,
+                permutation,
+                firsts,
+                starts,
+                rows,
+                values,
+                words,
+                floats,
+                b,
+            );
+        }
+        Call::Viewing(q) => {
+            view_and_say(harmed, permutation, firsts, starts, rows, values, q);
+        }
+    }
 }
 
 fn lend(
+    call: Call,
     sound: Record,
     damage: Damage,
     lending: Lending,
@@ -90,7 +176,8 @@ fn lend(
     let w = lent(sound, lending, 7, words.len());
     let x = lent(sound, lending, 8, floats.len());
     let n = lent(sound, lending, 12, b.len());
-    solve_and_say(
+    call_and_say(
+        call,
         harmed(sound, damage),
         &permutation[..p],
         &firsts[..f],
@@ -103,11 +190,8 @@ fn lend(
     );
 }
 
-// One solve and its line. The scratch is lent full of other numbers.
-pub fn solved(dish: Dish, damage: Damage, lending: Lending) {
-    say_dish(dish);
-    say_damage(damage);
-    say_lending(lending);
+// The scratch is lent full of other numbers.
+fn trial(dish: Dish, call: Call, damage: Damage, lending: Lending) {
     let mut p = permutation(dish);
     let mut f = firsts(dish);
     let mut s = starts(dish);
@@ -122,6 +206,7 @@ pub fn solved(dish: Dish, damage: Damage, lending: Lending) {
     let mut floats = [9.0; 8];
     let mut b = side();
     lend(
+        call,
         record(dish),
         damage,
         lending,
@@ -136,52 +221,25 @@ pub fn solved(dish: Dish, damage: Damage, lending: Lending) {
     );
 }
 
-fn view_and_say(
-    sound: Record,
-    damage: Damage,
-    lending: Lending,
-    permutation: &[usize],
-    firsts: &[usize],
-    starts: &[usize],
-    rows: &[usize],
-    values: &[f64],
-    q: usize,
-) {
-    let p = lent(sound, lending, 1, permutation.len());
-    let f = lent(sound, lending, 2, firsts.len());
-    let s = lent(sound, lending, 3, starts.len());
-    let r = lent(sound, lending, 9, rows.len());
-    let v = lent(sound, lending, 11, values.len());
-    let part = column(
-        harmed(sound, damage),
-        &permutation[..p],
-        &firsts[..f],
-        &starts[..s],
-        &rows[..r],
-        &values[..v],
-        Factored(q),
-    );
-    say_number(part.len());
-    say_bits(sum(part));
-    say(b"\n");
+// One solve and its line.
+pub fn solved(dish: Dish, damage: Damage, lending: Lending) {
+    say_dish(dish);
+    say_damage(damage);
+    say_lending(lending);
+    trial(dish, Call::Solving, damage, lending);
 }
 
-// One view and its line: the length of the part, and the sum of its bits.
+// The number of one solve.
+pub fn numbered(dish: Dish, damage: Damage) {
+    trial(dish, Call::Numbering, damage, Lending::Exact);
+}
+
+// One view and its line.
 pub fn viewed(dish: Dish, damage: Damage, lending: Lending, q: usize) {
     say_dish(dish);
     say(b" column");
     say_number(q);
     say_damage(damage);
     say_lending(lending);
-    let mut p = permutation(dish);
-    let mut f = firsts(dish);
-    let mut s = starts(dish);
-    let mut r = rows(dish);
-    let mut v = values(dish);
-    harm_words(&mut p, 1, damage);
-    harm_words(&mut f, 2, damage);
-    harm_words(&mut s, 3, damage);
-    harm_words(&mut r, 9, damage);
-    harm_values(&mut v, damage);
-    view_and_say(record(dish), damage, lending, &p, &f, &s, &r, &v, q);
+    trial(dish, Call::Viewing(q), damage, lending);
 }

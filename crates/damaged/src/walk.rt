@@ -5,6 +5,10 @@ use crate::damage::more;
 use crate::dish::Dish;
 use crate::dish::record;
 use crate::lending::Lending;
+use crate::line::say;
+use crate::line::say_area;
+use crate::line::say_dish;
+use crate::trial::numbered;
 use crate::trial::solved;
 use crate::trial::viewed;
 use statement::Stage;
@@ -178,6 +182,53 @@ pub fn structure_rows() {
     word(Dish::Three, 9, 2, 3);
     // accepted: another row, with which all of (d) holds
     word(Dish::Six, 9, 1, 4);
+}
+
+// One word as each number below `top`.
+fn each_number(dish: Dish, area: usize, at: usize, top: usize) {
+    let mut to: usize = 0;
+    while to < top {
+        numbered(
+            dish,
+            Damage::Word {
+                area: area,
+                at: at,
+                to: to,
+            },
+        );
+        to += 1;
+    }
+}
+
+fn one_word(dish: Dish, area: usize, at: usize, top: usize) {
+    say_dish(dish);
+    say_area(area, at);
+    say(b" is 0 and up:");
+    each_number(dish, area, at, top);
+    say(b"\n");
+}
+
+// Each of the first `many` words.
+fn each_word(dish: Dish, area: usize, many: usize, top: usize) {
+    let mut at: usize = 0;
+    while at < many {
+        one_word(dish, area, at, top);
+        at += 1;
+    }
+}
+
+// Each word that an area needs, as each number to two above the largest that stands there.
+pub fn every_word() {
+    each_word(Dish::Six, 1, 6, 8);
+    each_word(Dish::Six, 2, 7, 9);
+    each_word(Dish::Six, 3, 7, 14);
+    each_word(Dish::Six, 9, 11, 8);
+    each_word(Dish::Three, 1, 3, 5);
+    each_word(Dish::Three, 2, 4, 6);
+    each_word(Dish::Three, 3, 4, 6);
+    each_word(Dish::Three, 9, 3, 5);
+    each_word(Dish::Four, 1, 4, 6);
+    each_word(Dish::Four, 9, 7, 6);
 }
 
 // A full record of the old dish on cleared areas.
