@@ -172,7 +172,7 @@ def solved(dish, damage, lending, *expected):
         sys.exit("%s %s, %s: by reasoning %s, by the rules %s" % (dish, named(damage), lending, want, got))
     after = b if want[0] else solution(counts, *lent, b)
     end = "" if want[0] else " :" + "".join(" %016x" % bits(x) for x in after)
-    print("%s %s, %s: %d %d %d zero %016x %016x%s" % (dish, named(damage), lending, *want, total(b), total(after), end))
+    print("%s %s, %s: %d %d %d 1 %016x %016x%s" % (dish, named(damage), lending, *want, total(b), total(after), end))
 
 
 def viewed(dish, damage, lending, q, length):
@@ -185,8 +185,8 @@ def viewed(dish, damage, lending, q, length):
     print("%s column %d %s, %s: %d %016x" % (dish, q, named(damage), lending, length, total(part)))
 
 
-def word(dish, area, at, to, expected=11):
-    solved(dish, ("word", area, at, to), "exact", expected)
+def word(area, at, to, expected=11):
+    solved("six", ("word", area, at, to), "exact", expected)
 
 
 def swapped(dish, area, at, expected=11):
@@ -230,58 +230,31 @@ for dish in ("six", "three"):
 solved("bare", SOUND, "short 2", 11)
 solved("bare", SOUND, "short 3", 11)
 # (b)
-word("six", 1, 1, 0)
-word("six", 1, 5, 4)
-word("three", 1, 0, 2)
-word("four", 1, 0, 0)
-word("six", 1, 5, 6)
-word("six", 1, 0, MAX)
-word("three", 1, 2, 3)
-swapped("six", 1, 0, 0)
-swapped("four", 1, 0, 0)
+word(1, 1, 0)
+word(1, 5, 6)
 # (c)
-word("six", 2, 0, 1)
-word("three", 2, 0, 1)
-word("six", 2, 1, 0)
-word("six", 2, 2, 1)
-word("six", 2, 3, 5)
+word(2, 0, 1)
+word(2, 2, 1)
+word(2, 6, 7)
 swapped("six", 2, 2)
-word("six", 2, 6, 5)
-word("six", 2, 6, 7)
-word("six", 2, 6, MAX)
-word("three", 2, 1, 2)
-word("three", 2, 1, 4)
-# (d), row starts
-word("six", 3, 0, 1)
-word("three", 3, 0, 1)
-word("six", 3, 3, 3)
-word("six", 3, 1, 5)
-word("six", 3, 5, MAX)
+# (d)
+word(3, 0, 1)
+word(3, 3, 3)
+word(3, 6, 10)
 swapped("six", 3, 3)
-word("six", 3, 6, 10)
-word("six", 3, 6, 12)
-word("three", 3, 1, 2)
-word("three", 3, 1, 4)
-word("six", 3, 1, 1)
-word("six", 3, 1, 3)
-# (d), rows
 swapped("six", 9, 0)
 swapped("three", 9, 1)
-word("six", 9, 1, 0)
-word("three", 9, 2, 1)
-word("six", 9, 1, 6)
-word("six", 9, 9, MAX)
-word("six", 9, 10, 6)
-word("six", 9, 2, 0)
-word("six", 9, 0, 1)
-word("six", 9, 10, 4)
-word("three", 9, 2, 3)
-word("six", 9, 1, 4, 0)
+word(9, 1, 6)
+word(9, 2, 0)
+# accepted
+swapped("six", 1, 0, 0)
+swapped("four", 1, 0, 0)
+word(9, 1, 4, 0)
 # every word: by the rules alone
 for dish, area, many, top in (("six", 1, 6, 8), ("six", 2, 7, 9), ("six", 3, 7, 14), ("six", 9, 11, 8), ("three", 1, 3, 5),
                               ("three", 2, 4, 6), ("three", 3, 4, 6), ("three", 9, 3, 5), ("four", 1, 4, 6), ("four", 9, 7, 6)):
     for at in range(many):
-        numbers = [answer(*made(dish, ("word", area, at, to), "exact"))[0] for to in range(top)]
+        numbers = [answer(*made(dish, ("word", area, at, to), "exact"))[0] for to in [*range(top), BIG, MAX]]
         print("%s area %d at %d is 0 and up: %s" % (dish, area, at, " ".join(map(str, numbers))))
 # the strut
 solved("six", ("cleared",), "exact", 11)

@@ -101,12 +101,13 @@ pub fn say_details(answer: Answer) {
     say_number(answers::second_detail(answer));
 }
 
-// Whether the scratch is zero.
-pub fn say_flag(words: bool, floats: bool) {
-    if words & floats {
-        say(b" zero");
-    } else {
-        say(b" LEFT");
+// Nothing, where the scratch is zero and a refusal kept the right side.
+pub fn say_fault(zero: bool, kept: bool) {
+    if !zero {
+        say(b" SCRATCH");
+    }
+    if !kept {
+        say(b" CHANGED");
     }
 }
 

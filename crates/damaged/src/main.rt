@@ -9,14 +9,10 @@ mod trial;
 mod walk;
 
 fn main() {
-    walk::sound();
     walk::states();
     walk::counts();
     walk::short_areas();
-    walk::permutations();
-    walk::first_columns();
-    walk::row_starts();
-    walk::structure_rows();
+    walk::words();
     walk::every_word();
     walk::cleared();
     walk::other_numbers();

@@ -19,7 +19,7 @@ use crate::line::say_bits;
 use crate::line::say_damage;
 use crate::line::say_details;
 use crate::line::say_dish;
-use crate::line::say_flag;
+use crate::line::say_fault;
 use crate::line::say_lending;
 use crate::line::say_number;
 use crate::line::sum;
@@ -39,17 +39,22 @@ pub enum Call {
     Viewing(usize),
 }
 
-// The answer; the scratch; the right side's sum before and after, and the solution where there is one.
+// The number, and what is at fault besides; the details, 1 for scratch that is zero, the right side's sum before and after,
+// and the solution where there is one.
 fn say_after(whole: bool, answer: Answer, before: u64, words: &[usize], floats: &[f64], b: &[f64]) {
+    let accepted = number(answer) == 0;
+    let after = sum(b);
+    let zero = zero_words(words) & zero_floats(floats);
     say_number(number(answer));
+    say_fault(zero, accepted | (before == after));
     if !whole {
         return;
     }
     say_details(answer);
-    say_flag(zero_words(words), zero_floats(floats));
+    say_number(zero as usize);
     say_bits(before);
-    say_bits(sum(b));
-    if number(answer) == 0 {
+    say_bits(after);
+    if accepted {
         say(b" :");
         say_all(b);
     }

@@ -13,8 +13,8 @@ use crate::trial::solved;
 use crate::trial::viewed;
 use statement::Stage;
 
-// Accepted.
-pub fn sound() {
+pub fn states() {
+    // accepted
     solved(Dish::Six, Damage::Nothing, Lending::Exact);
     solved(Dish::Six, Damage::Nothing, Lending::Loose);
     solved(Dish::Three, Damage::Nothing, Lending::Exact);
@@ -23,9 +23,7 @@ pub fn sound() {
     solved(Dish::Bare, Damage::Nothing, Lending::Exact);
     // values may be any bits
     solved(Dish::Six, Damage::NoValues, Lending::Exact);
-}
-
-pub fn states() {
+    // not full
     solved(Dish::Six, Damage::State(Stage::Empty), Lending::Exact);
     solved(Dish::Six, Damage::State(Stage::Analysed), Lending::Exact);
     solved(Dish::Six, Damage::State(Stage::Partial), Lending::Exact);
@@ -94,9 +92,9 @@ pub fn short_areas() {
     solved(Dish::Bare, Damage::Nothing, Lending::Short(3));
 }
 
-fn word(dish: Dish, area: usize, at: usize, to: usize) {
+fn word(area: usize, at: usize, to: usize) {
     solved(
-        dish,
+        Dish::Six,
         Damage::Word {
             area: area,
             at: at,
@@ -110,101 +108,60 @@ fn swapped(dish: Dish, area: usize, at: usize) {
     solved(dish, Damage::Swapped { area: area, at: at }, Lending::Exact);
 }
 
-// (b)
-pub fn permutations() {
-    // a repeat
-    word(Dish::Six, 1, 1, 0);
-    word(Dish::Six, 1, 5, 4);
-    word(Dish::Three, 1, 0, 2);
-    word(Dish::Four, 1, 0, 0);
-    // an entry not below n
-    word(Dish::Six, 1, 5, 6);
-    word(Dish::Six, 1, 0, 0xffff_ffff_ffff_ffff);
-    word(Dish::Three, 1, 2, 3);
-    // accepted: still a permutation
-    swapped(Dish::Six, 1, 0);
-    swapped(Dish::Four, 1, 0);
-}
-
-// (c)
-pub fn first_columns() {
-    // do not begin with 0
-    word(Dish::Six, 2, 0, 1);
-    word(Dish::Three, 2, 0, 1);
-    // do not rise
-    word(Dish::Six, 2, 1, 0);
-    word(Dish::Six, 2, 2, 1);
-    word(Dish::Six, 2, 3, 5);
+// (b), (c) and (d).
+pub fn words() {
+    // a permutation with a repeat, and with an entry not below n
+    word(1, 1, 0);
+    word(1, 5, 6);
+    // first columns that do not begin with 0, do not rise, do not end with n
+    word(2, 0, 1);
+    word(2, 2, 1);
+    word(2, 6, 7);
     swapped(Dish::Six, 2, 2);
-    // do not end with n
-    word(Dish::Six, 2, 6, 5);
-    word(Dish::Six, 2, 6, 7);
-    word(Dish::Six, 2, 6, 0xffff_ffff_ffff_ffff);
-    word(Dish::Three, 2, 1, 2);
-    word(Dish::Three, 2, 1, 4);
-}
-
-// (d), row starts
-pub fn row_starts() {
-    // do not begin with 0
-    word(Dish::Six, 3, 0, 1);
-    word(Dish::Three, 3, 0, 1);
-    // fall
-    word(Dish::Six, 3, 3, 3);
-    word(Dish::Six, 3, 1, 5);
-    word(Dish::Six, 3, 5, 0xffff_ffff_ffff_ffff);
+    // row starts that do not begin with 0, fall, do not end with the count
+    word(3, 0, 1);
+    word(3, 3, 3);
+    word(3, 6, 10);
     swapped(Dish::Six, 3, 3);
-    // do not end with the count
-    word(Dish::Six, 3, 6, 10);
-    word(Dish::Six, 3, 6, 12);
-    word(Dish::Three, 3, 1, 2);
-    word(Dish::Three, 3, 1, 4);
-    // rise, but give a supernode another's rows
-    word(Dish::Six, 3, 1, 1);
-    word(Dish::Six, 3, 1, 3);
-}
-
-// (d), rows
-pub fn structure_rows() {
-    // swapped, or twice the same
+    // rows that are swapped, not below n, or not the own columns first
     swapped(Dish::Six, 9, 0);
     swapped(Dish::Three, 9, 1);
-    word(Dish::Six, 9, 1, 0);
-    word(Dish::Three, 9, 2, 1);
-    // not below n
-    word(Dish::Six, 9, 1, 6);
-    word(Dish::Six, 9, 9, 0xffff_ffff_ffff_ffff);
-    word(Dish::Six, 9, 10, 6);
-    // do not begin with the own columns
-    word(Dish::Six, 9, 2, 0);
-    word(Dish::Six, 9, 0, 1);
-    word(Dish::Six, 9, 10, 4);
-    word(Dish::Three, 9, 2, 3);
-    // accepted: another row, with which all of (d) holds
-    word(Dish::Six, 9, 1, 4);
+    word(9, 1, 6);
+    word(9, 2, 0);
+    // accepted: still a permutation, and another row with which all of (d) holds
+    swapped(Dish::Six, 1, 0);
+    swapped(Dish::Four, 1, 0);
+    word(9, 1, 4);
+}
+
+fn number(dish: Dish, area: usize, at: usize, to: usize) {
+    numbered(
+        dish,
+        Damage::Word {
+            area: area,
+            at: at,
+            to: to,
+        },
+    );
 }
 
 // One word as each number below `top`.
 fn each_number(dish: Dish, area: usize, at: usize, top: usize) {
     let mut to: usize = 0;
     while to < top {
-        numbered(
-            dish,
-            Damage::Word {
-                area: area,
-                at: at,
-                to: to,
-            },
-        );
+        number(dish, area, at, to);
         to += 1;
     }
 }
 
+// And as two absurd ones.
 fn one_word(dish: Dish, area: usize, at: usize, top: usize) {
     say_dish(dish);
     say_area(area, at);
     say(b" is 0 and up:");
     each_number(dish, area, at, top);
+    number(dish, area, at, 0x8000_0000_0000_0000);
+    number(dish, area, at, 0xffff_ffff_ffff_ffff);
     say(b"\n");
 }
 

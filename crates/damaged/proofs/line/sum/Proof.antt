@@ -11,45 +11,5 @@ Inv-loop s t₀ i₀ t i = i ≤ length s
 abbrev μ-loop : tie.MeasureT-loop
 μ-loop s t₀ i₀ t i = length s - i
 
-loop-holds : tie.Need-loop-holds Inv-loop μ-loop
-loop-holds c = omega arith
-
-mul-bits-of : tie.Need-mul-bits-of Inv-loop μ-loop
-mul-bits-of c = omega arith
-
-shared-slice-read-bits-of : tie.Need-shared-slice-read-bits-of Inv-loop μ-loop
-shared-slice-read-bits-of c = omega arith
-
-bits-of-requires : tie.Need-bits-of-requires Inv-loop μ-loop
-bits-of-requires c κs = tt
-
-wrapping-add-u64-requires : tie.Need-wrapping-add-u64-requires Inv-loop μ-loop
-wrapping-add-u64-requires c κs = tt
-
-add-i : tie.Need-add-i Inv-loop μ-loop
-add-i c = omega arith
-
-loop-less : tie.Need-loop-less Inv-loop μ-loop
-loop-less c = omega arith
-
-loop-again : tie.Need-loop-again Inv-loop μ-loop
-loop-again c = omega arith
-
-returns : tie.Need-returns Inv-loop μ-loop
-returns c = omega arith
-
 pub sum-spec : {M : Type 1} → statement M
-sum-spec =
-    tie.close
-    (tie.spec
-    Inv-loop
-    μ-loop
-    loop-holds
-    mul-bits-of
-    shared-slice-read-bits-of
-    bits-of-requires
-    wrapping-add-u64-requires
-    add-i
-    loop-less
-    loop-again
-    returns)
+sum-spec = tie.close (tie.spec Inv-loop μ-loop (λ c. omega arith) (λ c. omega arith) (λ c. omega arith) (λ c κs. tt) (λ c κs. tt) (λ c. omega arith) (λ c. omega arith) (λ c. omega arith) (λ c. tt))

@@ -11,41 +11,5 @@ Inv-loop s i₀ i = i ≤ length s
 abbrev μ-loop : tie.MeasureT-loop
 μ-loop s i₀ i = length s - i
 
-loop-holds : tie.Need-loop-holds Inv-loop μ-loop
-loop-holds c = omega arith
-
-mul-if1 : tie.Need-mul-if1 Inv-loop μ-loop
-mul-if1 c = omega arith
-
-shared-slice-read-if1 : tie.Need-shared-slice-read-if1 Inv-loop μ-loop
-shared-slice-read-if1 c = omega arith
-
-returns : tie.Need-returns Inv-loop μ-loop
-returns c = omega arith
-
-add-i : tie.Need-add-i Inv-loop μ-loop
-add-i c = omega arith
-
-loop-less : tie.Need-loop-less Inv-loop μ-loop
-loop-less c = omega arith
-
-loop-again : tie.Need-loop-again Inv-loop μ-loop
-loop-again c = omega arith
-
-returns-2 : tie.Need-returns-2 Inv-loop μ-loop
-returns-2 c = omega arith
-
 pub zero-words-spec : {M : Type 1} → statement M
-zero-words-spec =
-    tie.close
-    (tie.spec
-    Inv-loop
-    μ-loop
-    loop-holds
-    mul-if1
-    shared-slice-read-if1
-    returns
-    add-i
-    loop-less
-    loop-again
-    returns-2)
+zero-words-spec = tie.close (tie.spec Inv-loop μ-loop (λ c. omega arith) (λ c. omega arith) (λ c. omega arith) (λ c. tt) (λ c. omega arith) (λ c. omega arith) (λ c. omega arith) (λ c. tt))
