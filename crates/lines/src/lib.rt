@@ -35,7 +35,7 @@ pub fn put_hex(out: &mut [u8], at: usize, k: usize, x: u64)
 }
 
 // The bit pattern of x, and 7FF8000000000000 for every NaN.
-fn bits_of(x: f64) -> u64
+pub fn bits_of(x: f64) -> u64
     ensures { λ r. ⌜ r ≡ toBits binary64 x ⌝ }
 {
     if x != x {
