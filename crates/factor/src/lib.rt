@@ -29,10 +29,10 @@ use statement::Record;
 use statement::Room;
 use statement::Stage;
 use statement::Stop;
-use survey::survey;
 use survey::Findings;
-use tasks::split;
+use survey::survey;
 use tasks::Cuts;
+use tasks::split;
 
 fn is_plain(order: Order) -> bool
     ensures { λ r. ⌜ r ≡ isPlain order ⌝ }
