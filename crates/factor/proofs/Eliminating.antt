@@ -1,13 +1,11 @@
 -- From the run over the areas to the statement's run, and number 9. Assumes nothing.
-use mathlib.Core.Path.{_≡_, refl, sym, ap, ap₂, _∙_}
-use mathlib.Core.Logic.{_≢_}
-use mathlib.Core.Bool.{Bool, true, false, cond}
-use mathlib.Core.List.{List, [], _∷_, _++_}
+use mathlib.Core.Path.{_≡_, refl, sym, ap, _∙_}
+use mathlib.Core.Bool.{Bool, false, cond}
+use mathlib.Core.List.{List, _∷_, _++_}
 use mathlib.Core.Option.{Option, none, some}
-use Prim.Native.Nat.{ℕ, zero, suc, _+_, _-_, _*_, _≤_, _<_}
+use Prim.Native.Nat.{ℕ, zero, suc, _+_, _*_, _≤_, _<_}
 use native.Mathlib.Omega.{arith}
-use lib.Dec.{ltb}
-use lib.ListN.{length, getD, take, drop, replicate, length-append, length-take, length-replicate, List·getD-append}
+use lib.ListN.{length, getD, take, drop, replicate, length-append, length-take, List·getD-append}
 use lib.Seq.{getD-take, getD-drop}
 use lib.Ieee.{Float}
 use borrow.Author.Tests.{lt-ltb, le-ltb}
@@ -15,16 +13,14 @@ use Rattle.statement.specs.Lists.{list, rising}
 use Rattle.statement.specs.Input.{Matrix, WellFormed, pattern, +0}
 use Rattle.statement.specs.Fill.{entries}
 use Rattle.statement.specs.Postorder as postorder
-use Rattle.statement.specs.Shape.{Shape, supernodes, parentOf, offset}
+use Rattle.statement.specs.Shape.{Shape, supernodes, parentOf}
 use Rattle.statement.specs.Supernodes.{shapeOf, begins}
-use Rattle.statement.specs.Run.{State, blank, start, run, orderFault}
+use Rattle.statement.specs.Run.{blank, start, run}
 use Rattle.statement.specs.Answers.{test, answered}
 use Rattle.statement.specs.Areas.{held}
 use Rattle.statement.specs.Calls.{analysis, entryA, orderOf, stopOf, wrongPosition, stopped}
 use Rattle.statement.specs.Demands.{Names}
-use Rattle.statement.specs.declared.Answer.{Answer}
 use Rattle.statement.specs.declared.Answer.the-variants.{Accepted, WrongPivot}
-use Rattle.statement.specs.declared.Original.{Original}
 use Rattle.statement.specs.declared.Order.{Order}
 use Rattle.statement.specs.declared.Order.the-variants.{Plain, Listed}
 use Rattle.statement.specs.declared.Stop.{Stop}
@@ -34,7 +30,6 @@ use Rattle.laws.proofs.Analysed.{length-q, up, built, ok, size}
 use Rattle.laws.proofs.Agree.{run-entries}
 use Rattle.laws.proofs.Listed.{order-exactly}
 use Rattle.laws.proofs.Listing.{Spans, shape-spans}
-use Rattle.laws.proofs.Names.{length-rising}
 use Rattle.laws.proofs.Ranks.{list-length, list-at}
 use Rattle.laws.proofs.Shapes.{supernodes-are}
 use Rattle.laws.proofs.Tally.{count-to}
@@ -45,7 +40,7 @@ use Rattle.run.specs.Turn.{under, Due, fresh, Ran}
 use Rattle.run.proofs.Whole.{due-of, ran-of}
 use Rattle.order.proofs.Shaped.{shape-above}
 use Rattle.order.proofs.Shaped as parents
-use Rattle.ready.specs.Known.{Structured, Known, Laid, shapeFor, offsetsAt, parentsAt, startsAt, rowsAt}
+use Rattle.ready.specs.Known.{Structured, Laid, shapeFor, offsetsAt, parentsAt, startsAt, rowsAt}
 use Rattle.factor.specs.Filled.{ran, orderTest, pivotTest, Filled, isPlain, zeroFloats}
 
 no-position : (f : Option ℕ) → wrongPosition f ≡ none → f ≡ none

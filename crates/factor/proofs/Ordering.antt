@@ -3,7 +3,7 @@ use mathlib.Core.Path.{_≡_, refl, sym, ap, _∙_}
 use mathlib.Core.Logic.{_≢_}
 use mathlib.Core.List.{List, _++_}
 use mathlib.Core.Option.{Option, none, some}
-use Prim.Native.Nat.{ℕ, _+_, _-_, _≤_, _<_}
+use Prim.Native.Nat.{ℕ, _+_, _-_, _≤_}
 use native.Mathlib.Omega.{arith}
 use lib.ListN.{length, take, drop, length-append}
 use lib.Seq.{drop-at}
@@ -11,13 +11,12 @@ use lib.Ieee.{Float}
 use Rattle.statement.specs.Lists.{list}
 use Rattle.statement.specs.Input.{Matrix, pattern}
 use Rattle.statement.specs.Fill.{parent}
-use Rattle.statement.specs.Shape.{supernodes}
 use Rattle.statement.specs.Supernodes.{shapeOf}
 use Rattle.statement.specs.Run.{orderFault}
 use Rattle.statement.specs.Answers.{number, orElse, answered}
 use Rattle.statement.specs.Calls.{analysis, orderOf, stopOf, wrongPosition}
 use Rattle.statement.specs.declared.Answer.{Answer}
-use Rattle.statement.specs.declared.Answer.the-variants.{Accepted, WrongOrder}
+use Rattle.statement.specs.declared.Answer.the-variants.{Accepted}
 use Rattle.statement.specs.declared.Order.{Order}
 use Rattle.statement.specs.declared.Stop.{Stop}
 use Rattle.laws.specs.Numbered.{factored}

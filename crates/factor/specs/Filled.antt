@@ -10,7 +10,7 @@ use lib.Ieee.{Float}
 use Rattle.statement.specs.Input.{Matrix, +0}
 use Rattle.statement.specs.Postorder.{toOriginal}
 use Rattle.statement.specs.Run.{State, orderFault}
-use Rattle.statement.specs.Answers.{test, orElse, answered}
+use Rattle.statement.specs.Answers.{test, answered}
 use Rattle.statement.specs.Areas.{held}
 use Rattle.statement.specs.Calls.{analysis, Settled, orderOf, stopOf, wrongPosition, stopped}
 use Rattle.statement.specs.declared.Answer.{Answer}

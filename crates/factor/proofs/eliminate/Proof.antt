@@ -1,71 +1,52 @@
 use Rattle.factor.proofs.Eliminating.{asked}
 use Rattle.ready.specs.Known.{shapeFor}
-use Rattle.factor.proofs.Eliminating.{part-zero, due, inside, long-list, left, column-there, breaks, stands, back-held, take-replicate}
+use Rattle.factor.proofs.Eliminating.{part-zero, due, left, column-there, breaks, stands, back-held}
 use Rattle.statement.specs.Input.{matrix}
 use lib.ListN.{length-take}
-use mathlib.Core.Path.{_≡_, refl, sym, ap, _∙_}
+use mathlib.Core.Path.{sym, _∙_}
 use native.Mathlib.Omega.{arith}
 use borrow.Author.Needs.{needs}
 use Rattle.factor.proofs.eliminate.Statement.{statement}
 use Rattle.factor.proofs.eliminate.Tie as tie
-use Rattle.factor.proofs.eliminate.Reads as reads
-use Rattle.factor.proofs.eliminate.Lts as lts
-use Rattle.answers.proofs.original.Reads as original-reads
-use Rattle.factor.proofs.is_plain.Reads as is-plain-reads
-use Rattle.order.proofs.stop_at.Reads as stop-at-reads
-use Rattle.run.proofs.run.Reads as run-reads
 
--- src/lib.rt:72:9
 stop-at-requires : tie.Need-stop-at-requires
 stop-at-requires c κs = search needs
 
--- src/lib.rt:75:9
 is-plain-requires : tie.Need-is-plain-requires
 is-plain-requires c κs = search needs
 
--- src/lib.rt:86:9
 mul-run : tie.Need-mul-run
 mul-run c = search needs
 
--- src/lib.rt:86:9
 add-run : tie.Need-add-run
 add-run c = search needs
 
--- src/lib.rt:87:9
 mul-run-2 : tie.Need-mul-run-2
 mul-run-2 c = search needs
 
--- src/lib.rt:87:9
 add-run-2 : tie.Need-add-run-2
 add-run-2 c = search needs
 
--- src/lib.rt:88:9
 mul-run-3 : tie.Need-mul-run-3
 mul-run-3 c = search needs
 
--- src/lib.rt:88:9
 add-run-3 : tie.Need-add-run-3
 add-run-3 c = search needs
 
--- src/lib.rt:89:9
 mul-run-4 : tie.Need-mul-run-4
 mul-run-4 c = search needs
 
--- src/lib.rt:89:9
 add-run-4 : tie.Need-add-run-4
 add-run-4 c = search needs
 
--- src/lib.rt:92:9
 slice-relend-prefix-run : tie.Need-slice-relend-prefix-run
 slice-relend-prefix-run c = search needs
 
--- src/lib.rt:92:9
 slice-aggregate-run : tie.Need-slice-aggregate-run
 slice-aggregate-run c =
     let pre′ = c .before .before .before .before .before .before .before .before .before .before .before .before .before .before .before .before .before .before .pre in
     simp length-take (omega (arith, pre′ .1 .1 .1 .2))
 
--- src/lib.rt:74:9
 run-requires : tie.Need-run-requires
 run-requires c κs =
     let args′ = c .before .before .before .before .before .before .before .before .before .before .before .before .before .before .before .before .before .before .args in
@@ -77,7 +58,6 @@ run-requires c κs =
     let et = stop-at′ .ensures (shapeFor M) (sym (st .known .number)) in
     (due M st (args′ .words .now) (args′ .floats .now) (pre′ .1 .0) (pre′ .1 .1 .1 .0) (pre′ .1 .1 .1 .1) _ (simp length-take (omega (arith, pre′ .1 .1 .1 .2))), (asked M st (args′ .order) (args′ .list .now) (args′ .stop) (pre′ .1 .1 .0) _ (is-plain′ .ensures) _ et, pre′ .1 .0 .flags))
 
--- src/lib.rt:95:35
 original-requires : tie.Need-original-requires
 original-requires c κs =
     let args′ = c .before .before .before .before .before .before .before .before .before .before .before .before .before .before .before .before .before .before .before .before .before .before .before .before .before .before .args in
@@ -85,19 +65,15 @@ original-requires c κs =
     let if1′ = c .if1 in
     let M = matrix (args′ .n) (args′ .input-starts .now) (args′ .input-rows .now) (args′ .input-values .now) in column-there M (pre′ .0) _ (if1′ .taken)
 
--- src/lib.rt:95:9
 same-length : tie.Need-same-length
 same-length c = search needs
 
--- src/lib.rt:95:9
 same-length-2 : tie.Need-same-length-2
 same-length-2 c = search needs
 
--- src/lib.rt:95:9
 same-length-3 : tie.Need-same-length-3
 same-length-3 c = search needs
 
--- src/lib.rt:95:9
 returns : tie.Need-returns
 returns c =
     let args′ = c .before .before .before .before .before .before .before .before .before .before .before .before .before .before .before .before .before .before .before .before .before .before .before .before .before .before .before .args in
@@ -113,19 +89,15 @@ returns c =
     let x = left M st (args′ .words .now) (args′ .floats .now) (pre′ .1 .0) (pre′ .1 .1 .1 .0) (pre′ .1 .1 .1 .1) (args′ .order) (args′ .list .now) (args′ .stop) (pre′ .1 .1 .0) _ (is-plain′ .ensures) _ et _ _ _ (part-zero _ _ (pre′ .1 .1 .1 .3) (pre′ .1 .1 .1 .2)) (run′ .ensures) in
     rw (original′ .ensures) (breaks M st (args′ .order) (args′ .list .now) (args′ .stop) _ (x .1) (if1′ .taken))
 
--- src/lib.rt:45:1
 same-length-4 : tie.Need-same-length-4
 same-length-4 c = search needs
 
--- src/lib.rt:45:1
 same-length-5 : tie.Need-same-length-5
 same-length-5 c = search needs
 
--- src/lib.rt:45:1
 same-length-6 : tie.Need-same-length-6
 same-length-6 c = search needs
 
--- src/lib.rt:45:1
 returns-2 : tie.Need-returns-2
 returns-2 c =
     let args′ = c .before .before .before .before .before .before .before .before .before .before .before .before .before .before .before .before .before .before .before .before .before .before .before .before .before .before .args in

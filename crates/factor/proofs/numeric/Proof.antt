@@ -4,40 +4,29 @@ use Rattle.ready.specs.Known.{shapeFor}
 use Rattle.areas.proofs.Tail.{tail-length}
 use Rattle.room.proofs.Short.{accepted-first}
 use Rattle.statement.specs.Input.{matrix}
-use mathlib.Core.Path.{_≡_, refl, sym, ap, _∙_}
 use native.Mathlib.Omega.{arith}
 use borrow.Author.Needs.{needs}
 use Rattle.factor.proofs.numeric.Statement.{statement}
 use Rattle.factor.proofs.numeric.Tie as tie
-use Rattle.factor.proofs.numeric.Reads as reads
-use Rattle.factor.proofs.numeric.Lts as lts
-use Rattle.factor.proofs.eliminate.Reads as eliminate-reads
-use Rattle.factor.proofs.ready.Reads as ready-reads
-use Rattle.order.proofs.order_fault.Reads as order-fault-reads
 
--- src/lib.rt:147:48
 mul-order-fault : tie.Need-mul-order-fault
 mul-order-fault c = search needs
 
--- src/lib.rt:147:48
 sub-order-fault : tie.Need-sub-order-fault
 sub-order-fault c =
     let args′ = c .before .before .before .before .before .before .before .before .before .before .before .before .before .before .args in
     let pre′ = c .before .before .before .before .before .before .before .before .before .before .before .before .before .before .pre in
     let M = matrix (args′ .n) (args′ .input-starts .now) (args′ .input-rows .now) (args′ .input-values .now) in omega (arith, places-long M (pre′ .0 .known))
 
--- src/lib.rt:147:48
 part-order-fault-start : tie.Need-part-order-fault-start
 part-order-fault-start c =
     let args′ = c .before .before .before .before .before .before .before .before .before .before .before .before .before .before .args in
     let pre′ = c .before .before .before .before .before .before .before .before .before .before .before .before .before .before .pre in
     let M = matrix (args′ .n) (args′ .input-starts .now) (args′ .input-rows .now) (args′ .input-values .now) in omega (arith, places-long M (pre′ .0 .known))
 
--- src/lib.rt:147:48
 part-order-fault-end : tie.Need-part-order-fault-end
 part-order-fault-end c = search needs
 
--- src/lib.rt:147:9
 order-fault-requires : tie.Need-order-fault-requires
 order-fault-requires c κs =
     let args′ = c .before .before .before .before .before .before .before .before .before .before .before .before .before .before .before .before .args in
@@ -49,11 +38,9 @@ order-fault-requires c κs =
 enum-told : tie.Need-enum-told
 enum-told c = search needs
 
--- src/lib.rt:149:9
 same-length : tie.Need-same-length
 same-length c = search needs
 
--- src/lib.rt:149:9
 returns : tie.Need-returns
 returns c =
     let args′ = c .before .before .before .before .before .before .before .before .before .before .before .before .before .before .before .before .before .before .before .before .args in
@@ -63,14 +50,12 @@ returns c =
     let M = matrix (args′ .n) (args′ .input-starts .now) (args′ .input-rows .now) (args′ .input-values .now) in
     refused-order M (args′ .order) (args′ .list .now) (args′ .stop) _ (order-fault′ .ensures (shapeFor M) (of M (pre′ .0 .known))) (λ q. accepted-first (rw q at (match′ .keys2)))
 
--- src/lib.rt:151:5
 ready-requires : tie.Need-ready-requires
 ready-requires c κs =
     let pre′ = c .before .before .before .before .before .before .before .before .before .before .before .before .before .before .before .before .before .before .before .before .before .before .before .before .pre in
     let order-fault′ = c .before .before .before .before .before .before .before .order-fault in
     (pre′ .0 .known, (pre′ .1 .0, omega (arith, pre′ .1 .1, order-fault′ .kept .1 .1 .1 .1 .1 .0), pre′ .1 .2))
 
--- src/lib.rt:165:5
 eliminate-requires : tie.Need-eliminate-requires
 eliminate-requires c κs =
     let args′ = c .before .before .before .before .before .before .before .before .before .before .before .before .before .before .before .before .before .before .before .before .before .before .before .before .before .before .before .before .before .before .before .before .before .before .args in
@@ -81,23 +66,18 @@ eliminate-requires c κs =
     let M = matrix (args′ .n) (args′ .input-starts .now) (args′ .input-rows .now) (args′ .input-values .now) in
     (pre′ .0, (ready′ .ensures, (legal M (args′ .order) (args′ .list .now) (args′ .stop) _ (order-fault′ .ensures (shapeFor M) (of M (pre′ .0 .known))) (enum-told′ .given .1), (omega (arith, pre′ .1 .1, ready′ .kept .1 .1 .1 .1 .1 .1 .1 .1 .1 .1 .0, order-fault′ .kept .1 .1 .1 .1 .1 .0), omega (arith, pre′ .1 .2, ready′ .kept .1 .1 .1 .1 .1 .1 .1 .1 .1 .1 .1 .0), pre′ .1 .3, pre′ .1 .4))))
 
--- src/lib.rt:121:1
 same-length-2 : tie.Need-same-length-2
 same-length-2 c = search needs
 
--- src/lib.rt:121:1
 same-length-3 : tie.Need-same-length-3
 same-length-3 c = search needs
 
--- src/lib.rt:121:1
 same-length-4 : tie.Need-same-length-4
 same-length-4 c = search needs
 
--- src/lib.rt:121:1
 same-length-5 : tie.Need-same-length-5
 same-length-5 c = search needs
 
--- src/lib.rt:121:1
 returns-2 : tie.Need-returns-2
 returns-2 c =
     let args′ = c .before .before .before .before .before .before .before .before .before .before .before .before .before .before .before .before .before .before .before .before .before .before .before .before .before .before .before .before .before .before .before .before .before .before .before .before .before .before .before .before .before .args in
