@@ -24,7 +24,7 @@ use Rattle.areas.specs.Buckets.{Holds}
 use Rattle.areas.proofs.Buckets.{holds-of, holds-ext}
 use Rattle.numbering.specs.Done.{Done}
 use Rattle.structure.specs.Node.{nodes, ownerOf, above, rowStart}
-use Rattle.structure.specs.Line.{pattern, Known}
+use Rattle.structure.specs.Line.{factoredPattern, Known}
 use Rattle.structure.proofs.Node as Node
 use Rattle.structure.proofs.Begun.{few}
 use Rattle.updates.specs.Scan.{shaped, Laid}
@@ -46,12 +46,12 @@ module _ (n : ℕ) (input-starts input-rows : List ℕ) (formed : Columns n inpu
   s = stored input-starts input-rows
 
   abbrev P : ℕ → ℕ → Bool
-  P = pattern n input-starts input-rows
+  P = factoredPattern n input-starts input-rows
 
-  up : (i k : ℕ) → T (pattern n input-starts input-rows i k) → i ≤ k
+  up : (i k : ℕ) → T (factoredPattern n input-starts input-rows i k) → i ≤ k
   up = upper′ s n (upper n input-starts input-rows formed)
 
-  pub known-of : {ns : ℕ} {firsts : List ℕ} (d : List ℕ) → ns ≡ nodes (pattern n input-starts input-rows) n → firsts ≡ firstColumns (pattern n input-starts input-rows) n ++ d → Known n ns input-starts input-rows firsts
+  pub known-of : {ns : ℕ} {firsts : List ℕ} (d : List ℕ) → ns ≡ nodes (factoredPattern n input-starts input-rows) n → firsts ≡ firstColumns (factoredPattern n input-starts input-rows) n ++ d → Known n ns input-starts input-rows firsts
   known-of {ns} {firsts} d q e = record {
     formed = formed;
     small = small;
@@ -59,7 +59,7 @@ module _ (n : ℕ) (input-starts input-rows : List ℕ) (formed : Columns n inpu
     first-is = holds-front firsts (firstColumns P n) d (suc ns) (omega (arith, Shapes.firsts-length P n up)) e;
   }
 
-  pub few-of : {ns : ℕ} → ns ≡ nodes (pattern n input-starts input-rows) n → ns ≤ n
+  pub few-of : {ns : ℕ} → ns ≡ nodes (factoredPattern n input-starts input-rows) n → ns ≤ n
   few-of q = omega (arith, few n (nodes P n) input-starts input-rows (firstColumns P n ++ []) (known-of [] refl refl))
 
   -- after numbering and the row starts
@@ -68,13 +68,13 @@ module _ (n : ℕ) (input-starts input-rows : List ℕ) (formed : Columns n inpu
     pub known : Known n ns input-starts input-rows firsts
     known = known-of _ (w .number) (w .two)
 
-    pub counts-hold : Holds (count (pattern n input-starts input-rows) n) n groups
+    pub counts-hold : Holds (count (factoredPattern n input-starts input-rows) n) n groups
     counts-hold = holds-of _ n groups _ (w .four)
 
-    pub parents-hold : Holds (parent (pattern n input-starts input-rows) n) n top
+    pub parents-hold : Holds (parent (factoredPattern n input-starts input-rows) n) n top
     parents-hold = holds-of _ n top _ (w .six)
 
-    pub owners-hold : n ≤ length words → Holds (ownerOf (pattern n input-starts input-rows) n) n words
+    pub owners-hold : n ≤ length words → Holds (ownerOf (factoredPattern n input-starts input-rows) n) n words
     owners-hold h = holds-taken _ n words h (w .seven)
 
     pub numbered : {rows : ℕ} {starts′ tasks′ : List ℕ} → rows ≡ length (shape (stored input-starts input-rows) n .rows) → starts′ ≡ shape (stored input-starts input-rows) n .starts ++ drop (suc ns) starts
@@ -100,13 +100,13 @@ module _ (n : ℕ) (input-starts input-rows : List ℕ) (formed : Columns n inpu
     unfolding permutation
     perm-length = length-postorder (parent s n) n (parent-above s n) (parent-to s n)
 
-    number : ns ≡ nodes (pattern n input-starts input-rows) n
+    number : ns ≡ nodes (factoredPattern n input-starts input-rows) n
     number = w .number ∙ Node.number-is P n
 
     starts-length : length (shape (stored input-starts input-rows) n .starts) ≡ suc ns
     starts-length = ap length (Node.starts-are P n) ∙ list-length _ (suc (nodes P n)) ∙ ap suc (sym number)
 
-    ups : Holds (above (pattern n input-starts input-rows) n) (nodes (pattern n input-starts input-rows) n) (drop n tasks)
+    ups : Holds (above (factoredPattern n input-starts input-rows) n) (nodes (factoredPattern n input-starts input-rows) n) (drop n tasks)
     ups = holds-of _ (nodes P n) (drop n tasks) (drop ns (drop n tasks₀))
         (ap (drop n) (w .five) ∙ drop-at (list (pos (parent s n) n) n) _ n (list-length _ n) ∙ ap (λ l. l ++ drop ns (drop n tasks₀)) (Node.parents-are P n))
 
@@ -129,8 +129,8 @@ module _ (n : ℕ) (input-starts input-rows : List ℕ) (formed : Columns n inpu
 
 module _ {n ns : ℕ} {input-starts input-rows perm firsts starts tasks words : List ℕ} (w : Placed n ns input-starts input-rows perm firsts starts tasks words) where
   -- the row starts by themselves
-  pub starts-begun : Holds (rowStart (pattern n input-starts input-rows) n) (suc ns) starts
-  starts-begun = holds-ext _ (λ j h. ap (λ l. getD l j 0) (Node.starts-are (pattern n input-starts input-rows) n) ∙ list-at _ (suc (nodes (pattern n input-starts input-rows) n)) j 0 (omega (arith, w .known .number))) (w .begun)
+  pub starts-begun : Holds (rowStart (factoredPattern n input-starts input-rows) n) (suc ns) starts
+  starts-begun = holds-ext _ (λ j h. ap (λ l. getD l j 0) (Node.starts-are (factoredPattern n input-starts input-rows) n) ∙ list-at _ (suc (nodes (factoredPattern n input-starts input-rows) n)) j 0 (omega (arith, w .known .number))) (w .begun)
 
   -- with the rows
   pub laid-of : {nine : List ℕ} (d : List ℕ) → nine ≡ shape (stored input-starts input-rows) n .rows ++ d → Laid n ns input-starts input-rows firsts words starts nine

@@ -26,31 +26,31 @@ use Rattle.areas.proofs.Lists.{list-ext}
 use Rattle.areas.proofs.Front.{Front, front-over}
 use Rattle.areas.proofs.Summing.{Summing, summing-more, summing-over}
 use Rattle.structure.specs.Node.{nodes, firstOf, lastOf, ownerOf, above, inRow, nodeRows, rowStart}
-use Rattle.structure.specs.Line.{pattern, Known}
+use Rattle.structure.specs.Line.{factoredPattern, Known}
 use Rattle.structure.proofs.Node as Node
 use Rattle.structure.proofs.Climbs.{pattern-upper}
 
 -- the entries of each supernode's first column
 abbrev pub firstCount : ℕ → List ℕ → List ℕ → ℕ → ℕ
-firstCount n starts rows K = count (pattern n starts rows) n (firstOf (pattern n starts rows) n K)
+firstCount n starts rows K = count (factoredPattern n starts rows) n (firstOf (factoredPattern n starts rows) n K)
 
 module _ (n ns : ℕ) (starts rows firsts : List ℕ) (g : Known n ns starts rows firsts) where
   abbrev P : ℕ → ℕ → Bool
-  P = pattern n starts rows
+  P = factoredPattern n starts rows
 
-  up : (i k : ℕ) → T (pattern n starts rows i k) → i ≤ k
+  up : (i k : ℕ) → T (factoredPattern n starts rows i k) → i ≤ k
   up = pattern-upper n starts rows (g .formed)
 
   pub few : ns ≤ n
   few = omega (arith, g .number, Shapes.supernodes-are P n up, count-to (begins P n) n)
 
-  pub first-at : (K : ℕ) → K ≤ ns → getD firsts K 0 ≡ firstOf (pattern n starts rows) n K
+  pub first-at : (K : ℕ) → K ≤ ns → getD firsts K 0 ≡ firstOf (factoredPattern n starts rows) n K
   first-at K h = g .first-is .at K (let z : K < suc ns = omega arith in z)
 
   pub first-below : (K : ℕ) → K < ns → getD firsts K 0 < n
   first-below K h = omega (arith, first-at K (omega arith), Shapes.first-in P n up K (omega (arith, g .number)) .small)
 
-  module _ (counts : List ℕ) (c : Holds (count (pattern n starts rows) n) n counts) (K : ℕ) (h : K < ns) where
+  module _ (counts : List ℕ) (c : Holds (count (factoredPattern n starts rows) n) n counts) (K : ℕ) (h : K < ns) where
     pub count-at : getD counts (getD firsts K 0) 0 ≡ firstCount n starts rows K
     count-at = c .at (getD firsts K 0) (first-below K h) ∙ ap (count P n) (first-at K (omega arith))
 
@@ -67,7 +67,7 @@ module _ (n ns : ℕ) (starts rows firsts : List ℕ) (g : Known n ns starts row
   -- ---- parents
 
   module _ (K : ℕ) (h : K < ns) where
-    pub last-at : (0 < getD firsts (K + 1) 0) × (getD firsts (K + 1) 0 - 1 ≡ lastOf (pattern n starts rows) n K) × (lastOf (pattern n starts rows) n K < n)
+    pub last-at : (0 < getD firsts (K + 1) 0) × (getD firsts (K + 1) 0 - 1 ≡ lastOf (factoredPattern n starts rows) n K) × (lastOf (factoredPattern n starts rows) n K < n)
     last-at =
         let e : getD firsts (K + 1) 0 ≡ firstOf P n (suc K) = rw add-one (first-at (suc K) h) in
         let k : K < nodes P n = omega (arith, g .number) in
@@ -75,18 +75,18 @@ module _ (n ns : ℕ) (starts rows firsts : List ℕ) (g : Known n ns starts row
         let t = Shapes.first-to P n up (suc K) k in
         (omega arith, ap (λ x. x - 1) e, omega arith)
 
-    module _ (parents own : List ℕ) (p : Holds (parent (pattern n starts rows) n) n parents) (o : Holds (ownerOf (pattern n starts rows) n) n own) where
-      pub parent-at : getD parents (getD firsts (K + 1) 0 - 1) 0 ≡ parent (pattern n starts rows) n (lastOf (pattern n starts rows) n K)
+    module _ (parents own : List ℕ) (p : Holds (parent (factoredPattern n starts rows) n) n parents) (o : Holds (ownerOf (factoredPattern n starts rows) n) n own) where
+      pub parent-at : getD parents (getD firsts (K + 1) 0 - 1) 0 ≡ parent (factoredPattern n starts rows) n (lastOf (factoredPattern n starts rows) n K)
       parent-at = ap (λ x. getD parents x 0) (last-at .1) ∙ p .at (lastOf P n K) (last-at .2)
 
       pub parent-most : getD parents (getD firsts (K + 1) 0 - 1) 0 ≤ n
       parent-most = omega (arith, parent-at, parent-to P n (lastOf P n K) (last-at .2))
 
-      pub above-at : cond (eqb (getD parents (getD firsts (K + 1) 0 - 1) 0) n) ns (getD own (getD parents (getD firsts (K + 1) 0 - 1) 0) 0) ≡ above (pattern n starts rows) n K
+      pub above-at : cond (eqb (getD parents (getD firsts (K + 1) 0 - 1) 0) n) ns (getD own (getD parents (getD firsts (K + 1) 0 - 1) 0) 0) ≡ above (factoredPattern n starts rows) n K
       above-at = rw parent-at (⊎-elim
           (λ (z : parent P n (lastOf P n K) ≡ n). rw (eqb-yes z) (g .number ∙ sym (Node.owner-out P n up (parent P n (lastOf P n K)) (omega arith))))
           (λ (z : parent P n (lastOf P n K) < n). rw (eqb-no (let y : parent P n (lastOf P n K) ≢ n = omega arith in y)) (o .at (parent P n (lastOf P n K)) z))
           (eq-or-lt-of-le (parent-to P n (lastOf P n K) (last-at .2))))
 
-  pub parents-over : {d s : List ℕ} {k : ℕ} → Front (above (pattern n starts rows) n) ns d s k → ns ≤ k → s ≡ shape (stored starts rows) n .parents ++ drop ns d
+  pub parents-over : {d s : List ℕ} {k : ℕ} → Front (above (factoredPattern n starts rows) n) ns d s k → ns ≤ k → s ≡ shape (stored starts rows) n .parents ++ drop ns d
   parents-over {d} w h = front-over w h ∙ ap (λ l. l ++ drop ns d) (ap (list (above P n)) (g .number) ∙ sym (Node.parents-are P n))

@@ -21,11 +21,11 @@ use Rattle.laws.proofs.FactorTree as Factor
 use Rattle.areas.specs.Buckets.{Holds, Beyond}
 use Rattle.areas.proofs.Buckets.{beyond-same, beyond-set, beyond-by}
 use Rattle.structure.specs.Node.{nodes, ownerOf, above, inRow, rowStart}
-use Rattle.structure.specs.Line.{pattern, Given, Marked, Kept, Lines, Line}
+use Rattle.structure.specs.Line.{factoredPattern, Given, Marked, Kept, Lines, Line}
 use Rattle.structure.proofs.Node as Node
 use Rattle.structure.proofs.Lined as Lined
 
-pub pattern-upper : (n : ℕ) (starts rows : List ℕ) → Columns n starts rows → (i k : ℕ) → T (pattern n starts rows i k) → i ≤ k
+pub pattern-upper : (n : ℕ) (starts rows : List ℕ) → Columns n starts rows → (i k : ℕ) → T (factoredPattern n starts rows i k) → i ≤ k
 pattern-upper n starts rows wf = Factor.upper′ (stored starts rows) n (upper n starts rows wf)
 
 -- a walk in row r from supernode k, at supernode at
@@ -104,12 +104,12 @@ module _ (s : ℕ → ℕ → Bool) (n : ℕ) (up : (i k : ℕ) → T (s i k) �
 
 -- row r from position q of the column's rows on; those before began a walk
 pub record Lining (n : ℕ) (starts rows : List ℕ) (r k : ℕ) (m₀ next₀ l₀ m next l : List ℕ) (q : ℕ) : Type 0 where
-  pub line : Line (pattern n starts rows) n r 0 m next l
+  pub line : Line (factoredPattern n starts rows) n r 0 m next l
   pub from : getD starts k 0 ≤ q
   pub to : q ≤ getD starts (k + 1) 0
   pub within : getD starts (k + 1) 0 ≤ length rows
-  pub hit : (x : ℕ) → getD starts k 0 ≤ x → x < q → Marked r m (ownerOf (pattern n starts rows) n (pos (parent (stored starts rows) n) n (getD rows x 0)))
-  pub beyond : Beyond (rowStart (pattern n starts rows) n (nodes (pattern n starts rows) n)) l₀ l
+  pub hit : (x : ℕ) → getD starts k 0 ≤ x → x < q → Marked r m (ownerOf (factoredPattern n starts rows) n (pos (parent (stored starts rows) n) n (getD rows x 0)))
+  pub beyond : Beyond (rowStart (factoredPattern n starts rows) n (nodes (factoredPattern n starts rows) n)) l₀ l
   pub same-m : length m ≡ length m₀
   pub same-n : length next ≡ length next₀
 
@@ -120,14 +120,14 @@ module _ (n : ℕ) (starts rows perm place own up : List ℕ) (g : Given n start
   u : (i k : ℕ) → T (stored starts rows i k) → i ≤ k
   u = upper n starts rows (g .formed)
 
-  pu : (i k : ℕ) → T (pattern n starts rows i k) → i ≤ k
+  pu : (i k : ℕ) → T (factoredPattern n starts rows i k) → i ≤ k
   pu = pattern-upper n starts rows (g .formed)
 
   k : ℕ
   k = getD perm r 0
 
   abbrev total : ℕ
-  total = rowStart (pattern n starts rows) n (nodes (pattern n starts rows) n)
+  total = rowStart (factoredPattern n starts rows) n (nodes (factoredPattern n starts rows) n)
 
   pub column-is : getD perm r 0 ≡ original (permutation (stored starts rows) n) r
   column-is = g .perm-is .at r rn
@@ -152,20 +152,20 @@ module _ (n : ℕ) (starts rows perm place own up : List ℕ) (g : Given n start
     c-in : pos (parent (stored starts rows) n) n (getD rows q 0) < n
     c-in = Factor.numbering (stored starts rows) n u .p-in (getD rows q 0) i-in
 
-    entry-in : T (pattern n starts rows (pos (parent (stored starts rows) n) n (getD rows q 0)) r)
+    entry-in : T (factoredPattern n starts rows (pos (parent (stored starts rows) n) n (getD rows q 0)) r)
     unfolding renumbered
     entry-in = rw (ltb-yes c-in, ltb-yes rn, Factor.numbering (stored starts rows) n u .qp (getD rows q 0) i-in, ← column-is) st
 
-    own-at : getD own (getD place (getD rows q 0) 0) 0 ≡ ownerOf (pattern n starts rows) n (pos (parent (stored starts rows) n) n (getD rows q 0))
+    own-at : getD own (getD place (getD rows q 0) 0) 0 ≡ ownerOf (factoredPattern n starts rows) n (pos (parent (stored starts rows) n) n (getD rows q 0))
     own-at = rw place-at (g .own-is .at (pos (parent (stored starts rows) n) n (getD rows q 0)) c-in)
 
     pub entry-reads : (getD rows q 0 < length place) × (getD place (getD rows q 0) 0 < length own)
     entry-reads = (omega (arith, i-in, g .place-is .fits), omega (arith, c-in, place-at, g .own-is .fits))
 
-    pub entry-climbs : (getD own (getD place (getD rows q 0) 0) 0 < nodes (pattern n starts rows) n) × T (inRow (pattern n starts rows) n (getD own (getD place (getD rows q 0) 0) 0) r)
-    entry-climbs = rw own-at (Node.owner-in (pattern n starts rows) n pu _ c-in, Node.row-stored (pattern n starts rows) n pu _ r rn entry-in)
+    pub entry-climbs : (getD own (getD place (getD rows q 0) 0) 0 < nodes (factoredPattern n starts rows) n) × T (inRow (factoredPattern n starts rows) n (getD own (getD place (getD rows q 0) 0) 0) r)
+    entry-climbs = rw own-at (Node.owner-in (factoredPattern n starts rows) n pu _ c-in, Node.row-stored (factoredPattern n starts rows) n pu _ r rn entry-in)
 
-    pub entry-hit : (m : List ℕ) → Marked r m (getD own (getD place (getD rows q 0) 0) 0) → Marked r m (ownerOf (pattern n starts rows) n (pos (parent (stored starts rows) n) n (getD rows q 0)))
+    pub entry-hit : (m : List ℕ) → Marked r m (getD own (getD place (getD rows q 0) 0) 0) → Marked r m (ownerOf (factoredPattern n starts rows) n (pos (parent (stored starts rows) n) n (getD rows q 0)))
     entry-hit m h = sym (ap (λ x. getD m x 0) own-at) ∙ h
 
   pub record Opened (m next l : List ℕ) (o : ℕ) : Type 0 where
@@ -173,12 +173,12 @@ module _ (n : ℕ) (starts rows perm place own up : List ℕ) (g : Given n start
     pub in-n : o < length next
     pub below : getD next o 0 < total
     pub in-l : getD next o 0 < length l
-    pub line : Line (pattern n starts rows) n r 0 (set m o r) (set next o (getD next o 0 + 1)) (set l (getD next o 0) r)
+    pub line : Line (factoredPattern n starts rows) n r 0 (set m o r) (set next o (getD next o 0 + 1)) (set l (getD next o 0) r)
 
-  pub opened : {m next l : List ℕ} → Lines (pattern n starts rows) n r m next l → Opened m next l (getD own r 0)
+  pub opened : {m next l : List ℕ} → Lines (factoredPattern n starts rows) n r m next l → Opened m next l (getD own r 0)
   opened {m} {next} {l} w =
-      let b = Lined.line-begin (pattern n starts rows) n r rn pu w in
-      let h = Node.owner-in (pattern n starts rows) n pu r rn in
+      let b = Lined.line-begin (factoredPattern n starts rows) n r rn pu w in
+      let h = Node.owner-in (factoredPattern n starts rows) n pu r rn in
       rw (g .own-is .at r rn) (record {
         in-m = omega (arith, w .marks);
         in-n = omega (arith, w .lists .room);
@@ -187,7 +187,7 @@ module _ (n : ℕ) (starts rows perm place own up : List ℕ) (g : Given n start
         line = b .1;
       })
 
-  module _ {m next l m′ next′ l′ : List ℕ} (w : Lines (pattern n starts rows) n r m next l)
+  module _ {m next l m′ next′ l′ : List ℕ} (w : Lines (factoredPattern n starts rows) n r m next l)
       (e1 : m′ ≡ set m (getD own r 0) r) (e2 : next′ ≡ set next (getD own r 0) (getD next (getD own r 0) 0 + 1)) (e3 : l′ ≡ set l (getD next (getD own r 0) 0) r) where
     pub lining-begin : Lining n starts rows r (getD perm r 0) m′ next′ l′ m′ next′ l′ (getD starts (getD perm r 0) 0)
     lining-begin = record {
@@ -205,7 +205,7 @@ module _ (n : ℕ) (starts rows perm place own up : List ℕ) (g : Given n start
     opened-beyond = rw e3 (beyond-set total l _ r (opened w .below))
 
   module _ {m₀ next₀ l₀ m next l : List ℕ} {q : ℕ} (w : Lining n starts rows r (getD perm r 0) m₀ next₀ l₀ m next l q) where
-    pub lining-more : {m′ next′ l′ : List ℕ} → q < getD starts (getD perm r 0 + 1) 0 → Line (pattern n starts rows) n r 0 m′ next′ l′ → Kept r m m′ → Marked r m′ (getD own (getD place (getD rows q 0) 0) 0) → Beyond total l l′
+    pub lining-more : {m′ next′ l′ : List ℕ} → q < getD starts (getD perm r 0 + 1) 0 → Line (factoredPattern n starts rows) n r 0 m′ next′ l′ → Kept r m m′ → Marked r m′ (getD own (getD place (getD rows q 0) 0) 0) → Beyond total l l′
         → length m′ ≡ length m → length next′ ≡ length next → Lining n starts rows r (getD perm r 0) m₀ next₀ l₀ m′ next′ l′ (q + 1)
     lining-more {m′} {next′} {l′} h v keep t b f1 f2 = record {
       line = v;
@@ -218,9 +218,9 @@ module _ (n : ℕ) (starts rows perm place own up : List ℕ) (g : Given n start
       same-n = f2 ∙ w .same-n;
     }
 
-    pub lining-over : getD starts (getD perm r 0 + 1) 0 ≤ q → Lines (pattern n starts rows) n (suc r) m next l
+    pub lining-over : getD starts (getD perm r 0 + 1) 0 ≤ q → Lines (factoredPattern n starts rows) n (suc r) m next l
     unfolding renumbered
-    lining-over h = Lined.line-end (pattern n starts rows) n r rn pu (w .line) (λ c t.
+    lining-over h = Lined.line-end (factoredPattern n starts rows) n r rn pu (w .line) (λ c t.
         let x = and-both (ltb c n) _ t in
         let y = and-both (ltb r n) _ (x .1) in
         let cn = ltb→lt c n (x .0) in
@@ -231,16 +231,16 @@ module _ (n : ℕ) (starts rows perm place own up : List ℕ) (g : Given n start
 -- ---- all rows
 
 pub record All (n : ℕ) (starts rows l₀ m next l : List ℕ) (r : ℕ) : Type 0 where
-  pub lines : Lines (pattern n starts rows) n r m next l
+  pub lines : Lines (factoredPattern n starts rows) n r m next l
   pub to : r ≤ n
-  pub beyond : Beyond (rowStart (pattern n starts rows) n (nodes (pattern n starts rows) n)) l₀ l
+  pub beyond : Beyond (rowStart (factoredPattern n starts rows) n (nodes (factoredPattern n starts rows) n)) l₀ l
 
-pub all-begin : (n ns : ℕ) (starts rows from m d next e l : List ℕ) → ns ≡ nodes (pattern n starts rows) n → Holds (rowStart (pattern n starts rows) n) (suc ns) from
+pub all-begin : (n ns : ℕ) (starts rows from m d next e l : List ℕ) → ns ≡ nodes (factoredPattern n starts rows) n → Holds (rowStart (factoredPattern n starts rows) n) (suc ns) from
     → ns ≤ length d → ns ≤ length e → length (shape (stored starts rows) n .rows) ≤ length l
     → m ≡ replicate ns n ++ drop ns d → next ≡ take ns from ++ drop ns e → All n starts rows l m next l 0
 all-begin n ns starts rows from m d next e l q h a b f e1 e2 = record {
-  lines = Lined.lines-start (pattern n starts rows) n m next l
-      (rw (e1, length-append, length-replicate) (omega arith)) (rw (e2, length-append) (omega (arith, taken))) (rw (Node.rows-are (pattern n starts rows) n) at f)
+  lines = Lined.lines-start (factoredPattern n starts rows) n m next l
+      (rw (e1, length-append, length-replicate) (omega arith)) (rw (e2, length-append) (omega (arith, taken))) (rw (Node.rows-are (factoredPattern n starts rows) n) at f)
       (λ j k. let z : j < ns = omega arith in ap (λ x. getD x j 0) e1 ∙ List·getD-append (replicate ns n) (drop ns d) 0 j (omega (arith, length-replicate ns n)) ∙ getD-replicate ns j n 0 z)
       (λ j k. let z : j < ns = omega arith in ap (λ x. getD x j 0) e2 ∙ List·getD-append (take ns from) (drop ns e) 0 j (omega (arith, taken)) ∙ getD-take ns from j 0 z ∙ h .at j (omega arith));
   to = omega arith;
@@ -250,14 +250,14 @@ all-begin n ns starts rows from m d next e l q h a b f e1 e2 = record {
     taken : length (take ns from) ≡ ns
     taken = simp length-take (omega (arith, h .fits))
 
-pub all-more : {n : ℕ} {starts rows l₀ m next l m′ next′ l′ : List ℕ} {r : ℕ} → All n starts rows l₀ m next l r → r < n → Lines (pattern n starts rows) n (suc r) m′ next′ l′
-    → Beyond (rowStart (pattern n starts rows) n (nodes (pattern n starts rows) n)) l l′ → All n starts rows l₀ m′ next′ l′ (r + 1)
+pub all-more : {n : ℕ} {starts rows l₀ m next l m′ next′ l′ : List ℕ} {r : ℕ} → All n starts rows l₀ m next l r → r < n → Lines (factoredPattern n starts rows) n (suc r) m′ next′ l′
+    → Beyond (rowStart (factoredPattern n starts rows) n (nodes (factoredPattern n starts rows) n)) l l′ → All n starts rows l₀ m′ next′ l′ (r + 1)
 all-more {r} w h v b = record { lines = rw (add-one r) v; to = omega arith; beyond = beyond-by _ (w .beyond) b }
 
-pub all-over : {n : ℕ} {starts rows l₀ m next l : List ℕ} {r ns : ℕ} → All n starts rows l₀ m next l r → n ≤ r → ns ≡ nodes (pattern n starts rows) n
-    → (l ≡ shape (stored starts rows) n .rows ++ drop (length (shape (stored starts rows) n .rows)) l₀) × Holds (λ k. rowStart (pattern n starts rows) n (suc k)) ns next
+pub all-over : {n : ℕ} {starts rows l₀ m next l : List ℕ} {r ns : ℕ} → All n starts rows l₀ m next l r → n ≤ r → ns ≡ nodes (factoredPattern n starts rows) n
+    → (l ≡ shape (stored starts rows) n .rows ++ drop (length (shape (stored starts rows) n .rows)) l₀) × Holds (λ k. rowStart (factoredPattern n starts rows) n (suc k)) ns next
 all-over {n} {starts} {rows} {l₀} {m} {next} {l} {r} {ns} w h q =
     let e : r ≡ n = omega (arith, w .to) in
-    let v : Lines (pattern n starts rows) n n m next l = rw e at (w .lines) in
-    let o = Lined.lines-over (pattern n starts rows) n v (w .beyond) in
-    (rw (Node.rows-are (pattern n starts rows) n) (o .0), record { fits = omega (arith, v .lists .room); at = λ j k. o .1 j (omega arith) })
+    let v : Lines (factoredPattern n starts rows) n n m next l = rw e at (w .lines) in
+    let o = Lined.lines-over (factoredPattern n starts rows) n v (w .beyond) in
+    (rw (Node.rows-are (factoredPattern n starts rows) n) (o .0), record { fits = omega (arith, v .lists .room); at = λ j k. o .1 j (omega arith) })

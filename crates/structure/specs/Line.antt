@@ -16,23 +16,23 @@ use Rattle.areas.specs.Buckets.{Holds, Buckets}
 use Rattle.structure.specs.Node.{nodes, firstOf, ownerOf, above, inRow, nodeRows}
 
 -- the pattern in factor numbering
-abbrev pub pattern : ℕ → List ℕ → List ℕ → ℕ → ℕ → Bool
-pattern n starts rows = factored (stored starts rows) n
+abbrev pub factoredPattern : ℕ → List ℕ → List ℕ → ℕ → ℕ → Bool
+factoredPattern n starts rows = factored (stored starts rows) n
 
 -- n columns in ns supernodes, and their first columns
 pub record Known (n ns : ℕ) (starts rows firsts : List ℕ) : Type 0 where
   pub formed : Columns n starts rows
   pub small : n ≤ columnsLimit
-  pub number : ns ≡ nodes (pattern n starts rows) n
-  pub first-is : Holds (firstOf (pattern n starts rows) n) (suc ns) firsts
+  pub number : ns ≡ nodes (factoredPattern n starts rows) n
+  pub first-is : Holds (firstOf (factoredPattern n starts rows) n) (suc ns) firsts
 
 -- the column at each place, the place of each column, the supernode of each factor column, the parent of each supernode
 pub record Given (n : ℕ) (starts rows perm place own up : List ℕ) : Type 0 where
   pub formed : Columns n starts rows
   pub perm-is : Holds (original (permutation (stored starts rows) n)) n perm
   pub place-is : Holds (pos (parent (stored starts rows) n) n) n place
-  pub own-is : Holds (ownerOf (pattern n starts rows) n) n own
-  pub up-is : Holds (above (pattern n starts rows) n) (nodes (pattern n starts rows) n) up
+  pub own-is : Holds (ownerOf (factoredPattern n starts rows) n) n own
+  pub up-is : Holds (above (factoredPattern n starts rows) n) (nodes (factoredPattern n starts rows) n) up
 
 -- supernode K is marked in row r
 abbrev pub Marked : ℕ → List ℕ → ℕ → Type 0

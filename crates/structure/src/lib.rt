@@ -11,7 +11,7 @@ ghost use Rattle.statement.specs.Fill.{parent, count};
 ghost use Rattle.laws.specs.Numbered.{shape};
 ghost use Rattle.areas.specs.Buckets.{Holds, Beyond};
 ghost use Rattle.structure.specs.Node.{nodes, ownerOf, above, inRow, rowStart};
-ghost use Rattle.structure.specs.Line.{pattern, Known, Given, Marked, Kept, Lines, Line};
+ghost use Rattle.structure.specs.Line.{factoredPattern, Known, Given, Marked, Kept, Lines, Line};
 use areas::copy_part;
 use areas::fill_part;
 
@@ -26,7 +26,7 @@ pub fn row_starts(
     to: &mut [usize],
 )
     requires { ⌜ Known n ns (now «input_starts») (now «input_rows») (now firsts) ⌝ }
-    requires { ⌜ Holds (count (pattern n (now «input_starts») (now «input_rows»)) n) n (now counts) ⌝ }
+    requires { ⌜ Holds (count (factoredPattern n (now «input_starts») (now «input_rows»)) n) n (now counts) ⌝ }
     requires { ⌜ ns < length (now to) ⌝ }
     ensures { λ _. ⌜ now (to .exit) ≡ shape (stored (now («input_starts» .entry)) (now («input_rows» .entry))) n .starts ++ drop (suc ns) (now (to .entry)) ⌝ }
 {
@@ -62,8 +62,8 @@ pub fn supernode_parents(
     to: &mut [usize],
 )
     requires { ⌜ Known n ns (now «input_starts») (now «input_rows») (now firsts) ⌝ }
-    requires { ⌜ Holds (parent (pattern n (now «input_starts») (now «input_rows»)) n) n (now parents) ⌝ }
-    requires { ⌜ Holds (ownerOf (pattern n (now «input_starts») (now «input_rows»)) n) n (now own) ⌝ }
+    requires { ⌜ Holds (parent (factoredPattern n (now «input_starts») (now «input_rows»)) n) n (now parents) ⌝ }
+    requires { ⌜ Holds (ownerOf (factoredPattern n (now «input_starts») (now «input_rows»)) n) n (now own) ⌝ }
     requires { ⌜ ns ≤ length (now to) ⌝ }
     ensures { λ _. ⌜ now (to .exit) ≡ shape (stored (now («input_starts» .entry)) (now («input_rows» .entry))) n .parents ++ drop ns (now (to .entry)) ⌝ }
 {
@@ -101,13 +101,13 @@ fn climb(
     next: &mut [usize],
     to: &mut [usize],
 )
-    requires { ⌜ (Columns n (now «input_starts») (now «input_rows»)) × Holds (above (pattern n (now «input_starts») (now «input_rows»)) n) (nodes (pattern n (now «input_starts») (now «input_rows»)) n) (now up) ⌝ }
-    requires { ⌜ (r < n) × (k < nodes (pattern n (now «input_starts») (now «input_rows»)) n) × T (inRow (pattern n (now «input_starts») (now «input_rows»)) n k r) ⌝ }
-    requires { ⌜ Line (pattern n (now «input_starts») (now «input_rows»)) n r 0 (now marks) (now next) (now to) ⌝ }
-    ensures { λ _. ⌜ Line (pattern n (now («input_starts» .entry)) (now («input_rows» .entry))) n r 0 (now (marks .exit)) (now (next .exit)) (now (to .exit)) ⌝ }
+    requires { ⌜ (Columns n (now «input_starts») (now «input_rows»)) × Holds (above (factoredPattern n (now «input_starts») (now «input_rows»)) n) (nodes (factoredPattern n (now «input_starts») (now «input_rows»)) n) (now up) ⌝ }
+    requires { ⌜ (r < n) × (k < nodes (factoredPattern n (now «input_starts») (now «input_rows»)) n) × T (inRow (factoredPattern n (now «input_starts») (now «input_rows»)) n k r) ⌝ }
+    requires { ⌜ Line (factoredPattern n (now «input_starts») (now «input_rows»)) n r 0 (now marks) (now next) (now to) ⌝ }
+    ensures { λ _. ⌜ Line (factoredPattern n (now («input_starts» .entry)) (now («input_rows» .entry))) n r 0 (now (marks .exit)) (now (next .exit)) (now (to .exit)) ⌝ }
     ensures { λ _. ⌜ Kept r (now (marks .entry)) (now (marks .exit)) ⌝ }
     ensures { λ _. ⌜ Marked r (now (marks .exit)) k ⌝ }
-    ensures { λ _. ⌜ Beyond (rowStart (pattern n (now («input_starts» .entry)) (now («input_rows» .entry))) n (nodes (pattern n (now («input_starts» .entry)) (now («input_rows» .entry))) n)) (now (to .entry)) (now (to .exit)) ⌝ }
+    ensures { λ _. ⌜ Beyond (rowStart (factoredPattern n (now («input_starts» .entry)) (now («input_rows» .entry))) n (nodes (factoredPattern n (now («input_starts» .entry)) (now («input_rows» .entry))) n)) (now (to .entry)) (now (to .exit)) ⌝ }
 {
     let mut at = k;
     while marks[at] != r {
@@ -131,9 +131,9 @@ fn line(
     to: &mut [usize],
 )
     requires { ⌜ (r < n) × Given n (now «input_starts») (now «input_rows») (now permutation) (now place) (now own) (now up) ⌝ }
-    requires { ⌜ Lines (pattern n (now «input_starts») (now «input_rows»)) n r (now marks) (now next) (now to) ⌝ }
-    ensures { λ _. ⌜ Lines (pattern n (now («input_starts» .entry)) (now («input_rows» .entry))) n (suc r) (now (marks .exit)) (now (next .exit)) (now (to .exit)) ⌝ }
-    ensures { λ _. ⌜ Beyond (rowStart (pattern n (now («input_starts» .entry)) (now («input_rows» .entry))) n (nodes (pattern n (now («input_starts» .entry)) (now («input_rows» .entry))) n)) (now (to .entry)) (now (to .exit)) ⌝ }
+    requires { ⌜ Lines (factoredPattern n (now «input_starts») (now «input_rows»)) n r (now marks) (now next) (now to) ⌝ }
+    ensures { λ _. ⌜ Lines (factoredPattern n (now («input_starts» .entry)) (now («input_rows» .entry))) n (suc r) (now (marks .exit)) (now (next .exit)) (now (to .exit)) ⌝ }
+    ensures { λ _. ⌜ Beyond (rowStart (factoredPattern n (now («input_starts» .entry)) (now («input_rows» .entry))) n (nodes (factoredPattern n (now («input_starts» .entry)) (now («input_rows» .entry))) n)) (now (to .entry)) (now (to .exit)) ⌝ }
 {
     append(r, own[r], marks, next, to);
     let k = permutation[r];
@@ -163,10 +163,10 @@ pub fn rows(
     to: &mut [usize],
 )
     requires { ⌜ Given n (now «input_starts») (now «input_rows») (now permutation) (now place) (now own) (now up) ⌝ }
-    requires { ⌜ (ns ≡ nodes (pattern n (now «input_starts») (now «input_rows»)) n) × Holds (rowStart (pattern n (now «input_starts») (now «input_rows»)) n) (suc ns) (now starts) ⌝ }
+    requires { ⌜ (ns ≡ nodes (factoredPattern n (now «input_starts») (now «input_rows»)) n) × Holds (rowStart (factoredPattern n (now «input_starts») (now «input_rows»)) n) (suc ns) (now starts) ⌝ }
     requires { ⌜ (ns ≤ length (now marks)) × (ns ≤ length (now next)) × (length (shape (stored (now «input_starts») (now «input_rows»)) n .rows) ≤ length (now to)) ⌝ }
     ensures { λ _. ⌜ now (to .exit) ≡ shape (stored (now («input_starts» .entry)) (now («input_rows» .entry))) n .rows ++ drop (length (shape (stored (now («input_starts» .entry)) (now («input_rows» .entry))) n .rows)) (now (to .entry)) ⌝ }
-    ensures { λ _. ⌜ Holds (λ k. rowStart (pattern n (now («input_starts» .entry)) (now («input_rows» .entry))) n (suc k)) ns (now (next .exit)) ⌝ }
+    ensures { λ _. ⌜ Holds (λ k. rowStart (factoredPattern n (now («input_starts» .entry)) (now («input_rows» .entry))) n (suc k)) ns (now (next .exit)) ⌝ }
 {
     fill_part(ns, n, marks);
     copy_part(ns, starts, next);
@@ -218,9 +218,9 @@ pub fn node_starts(
     tasks: &mut [usize],
 ) -> usize
     requires { ⌜ Known n ns (now «input_starts») (now «input_rows») (now firsts) ⌝ }
-    requires { ⌜ Holds (count (pattern n (now «input_starts») (now «input_rows»)) n) n (now counts) ⌝ }
-    requires { ⌜ Holds (parent (pattern n (now «input_starts») (now «input_rows»)) n) n (now parents) ⌝ }
-    requires { ⌜ Holds (ownerOf (pattern n (now «input_starts») (now «input_rows»)) n) n (now own) ⌝ }
+    requires { ⌜ Holds (count (factoredPattern n (now «input_starts») (now «input_rows»)) n) n (now counts) ⌝ }
+    requires { ⌜ Holds (parent (factoredPattern n (now «input_starts») (now «input_rows»)) n) n (now parents) ⌝ }
+    requires { ⌜ Holds (ownerOf (factoredPattern n (now «input_starts») (now «input_rows»)) n) n (now own) ⌝ }
     requires { ⌜ (ns < length (now starts)) × (n + ns ≤ length (now tasks)) ⌝ }
     ensures { λ r. ⌜ r ≡ length (shape (stored (now («input_starts» .entry)) (now («input_rows» .entry))) n .rows) ⌝ }
     ensures { λ _. ⌜ now (starts .exit) ≡ shape (stored (now («input_starts» .entry)) (now («input_rows» .entry))) n .starts ++ drop (suc ns) (now (starts .entry)) ⌝ }
@@ -256,7 +256,7 @@ pub fn structure(
     to: &mut [usize],
 ) -> bool
     requires { ⌜ Given n (now «input_starts») (now «input_rows») (now permutation) (now tasks) (now words) (drop n (now tasks)) ⌝ }
-    requires { ⌜ (ns ≡ nodes (pattern n (now «input_starts») (now «input_rows»)) n) × Holds (rowStart (pattern n (now «input_starts») (now «input_rows»)) n) (suc ns) (now starts) ⌝ }
+    requires { ⌜ (ns ≡ nodes (factoredPattern n (now «input_starts») (now «input_rows»)) n) × Holds (rowStart (factoredPattern n (now «input_starts») (now «input_rows»)) n) (suc ns) (now starts) ⌝ }
     requires { ⌜ (ns ≤ length (now marks)) × (ns ≤ length (now next)) × (length (shape (stored (now «input_starts») (now «input_rows»)) n .rows) ≤ length (now to)) ⌝ }
     ensures { λ r. ⌜ r ≡ false ⌝ }
     ensures { λ _. ⌜ now (to .exit) ≡ shape (stored (now («input_starts» .entry)) (now («input_rows» .entry))) n .rows ++ drop (length (shape (stored (now («input_starts» .entry)) (now («input_rows» .entry))) n .rows)) (now (to .entry)) ⌝ }

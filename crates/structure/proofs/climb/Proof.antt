@@ -1,6 +1,6 @@
 -- `structure::climb` meets its contract: `Climbing` says where the walk stands. Assumes nothing.
 use Rattle.structure.proofs.Climbs.{pattern-upper, Climbing, climbing-begin, climbing-below, climbing-rise, climbing-step, climbing-over}
-use Rattle.structure.specs.Line.{pattern}
+use Rattle.structure.specs.Line.{factoredPattern}
 use lib.ListN.{length}
 use Prim.Native.Nat.{_-_}
 use native.Mathlib.Omega.{arith}
@@ -8,7 +8,7 @@ use Rattle.structure.proofs.climb.Statement.{statement}
 use Rattle.structure.proofs.climb.Tie as tie
 
 abbrev Inv-loop : tie.InvT-loop
-Inv-loop n starts rows up r k marks₀ next₀ to₀ at₀ marks next to at = Climbing (pattern n starts rows) n r k marks₀ next₀ to₀ marks next to at
+Inv-loop n starts rows up r k marks₀ next₀ to₀ at₀ marks next to at = Climbing (factoredPattern n starts rows) n r k marks₀ next₀ to₀ marks next to at
 
 abbrev μ-loop : tie.MeasureT-loop
 μ-loop n starts rows up r k marks₀ next₀ to₀ at₀ marks next to at = length up - at

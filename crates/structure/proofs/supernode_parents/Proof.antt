@@ -1,7 +1,7 @@
 -- `structure::supernode_parents` meets its contract: the first k parents stand at the front. Assumes nothing.
 use Rattle.structure.proofs.Begun.{last-at, parent-most, above-at, parents-over}
 use mathlib.Core.Path.{_∙_}
-use Rattle.structure.specs.Line.{pattern}
+use Rattle.structure.specs.Line.{factoredPattern}
 use Rattle.structure.specs.Node.{above}
 use Rattle.areas.proofs.Front.{Front, front-start, front-more}
 use Prim.Native.Nat.{_-_}
@@ -10,7 +10,7 @@ use Rattle.structure.proofs.supernode_parents.Statement.{statement}
 use Rattle.structure.proofs.supernode_parents.Tie as tie
 
 abbrev Inv-loop : tie.InvT-loop
-Inv-loop n ns starts rows firsts parents own to₀ k₀ to k = Front (above (pattern n starts rows) n) ns to₀ to k
+Inv-loop n ns starts rows firsts parents own to₀ k₀ to k = Front (above (factoredPattern n starts rows) n) ns to₀ to k
 
 abbrev μ-loop : tie.MeasureT-loop
 μ-loop n ns starts rows firsts parents own to₀ k₀ to k = ns - k
