@@ -1,0 +1,4 @@
+-- What the walks share.
+pub mod Again
+pub mod Shared
+pub mod Laws
