@@ -169,7 +169,7 @@ module _ {M : Type 1} (𝓤 : URA M) (H : Heap 𝓤) (A : Atoms 𝓤) (W : Given
       abbrev Left : Out → SProp 𝓤
       Left = afterBlock 𝓤 H (afterSeq 𝓤 H (Wp 𝓤 H C Λ En body.t-3 (atReturn 𝓤 H En Post)) (atReturn 𝓤 H En Post))
 
-      more : (i : ℕ) (v-us : List Update) (len-us : length v-us ≡ length us) (kept : Front (λ _. noUpdate) n us v-us i) (small : i < n) (X : SProp 𝓤) (k : (v-us′ : List Update)  → length v-us′ ≡ length us → Front (λ _. noUpdate) n us v-us′ (suc i) → ent 𝓤 (⋆ 𝓤 H A (At (suc i) v-us′)) X) → ent 𝓤 (⋆ 𝓤 H A (At i v-us)) (Wp 𝓤 H C Λ En body.turn-1 (afterTurn 𝓤 H X Left))
+      more : (i : ℕ) (v-us : List Update) (len-us : length v-us ≡ length us) (kept : Front (λ _. noUpdate) n us v-us i) (small : i < n) (X : SProp 𝓤) (k : (v-us′ : List Update) → length v-us′ ≡ length us → Front (λ _. noUpdate) n us v-us′ (suc i) → ent 𝓤 (⋆ 𝓤 H A (At (suc i) v-us′)) X) → ent 𝓤 (⋆ 𝓤 H A (At i v-us)) (Wp 𝓤 H C Λ En body.turn-1 (afterTurn 𝓤 H X Left))
       unfolding afterTurn
       more i v-us len-us kept small X k =
         let fits-turn : i < 2 ^ 64 = omega arith in
@@ -221,14 +221,14 @@ module _ {M : Type 1} (𝓤 : URA M) (H : Heap 𝓤) (A : Atoms 𝓤) (W : Given
       ends i v-us e len-us kept X = subst (λ (j : ℕ). Front (λ _. noUpdate) n us v-us j → ent 𝓤 (⋆ 𝓤 H A (At j v-us)) (Wp 𝓤 H C Λ En body.turn-1 (afterTurn 𝓤 H X Left))) (sym e) (λ kept′. left v-us len-us kept′ X) kept
 
       below : (t i : ℕ) (v-us′ : List Update) → suc i + t ≡ n → length v-us′ ≡ length us → Front (λ _. noUpdate) n us v-us′ (suc i) → ent 𝓤 (⋆ 𝓤 H A (At (suc i) v-us′)) (Below (suc t))
-      below t i v-us′ e len0 kept′ =
+      below t i v-us′ e len-us′ kept′ =
         via 𝓤 (Inv t)
-        (via 𝓤 (ex 𝓤 (λ (v-us : List Update). guard 𝓤 (((suc i) + t ≡ n) × (length v-us ≡ length us) × (Front (λ _. noUpdate) n us v-us (suc i))) (⋆ 𝓤 H A (At (suc i) v-us)))) (via 𝓤 (guard 𝓤 (((suc i) + t ≡ n) × (length v-us′ ≡ length us) × (Front (λ _. noUpdate) n us v-us′ (suc i))) (⋆ 𝓤 H A (At (suc i) v-us′))) (guardI 𝓤 (((suc i) + t ≡ n) × (length v-us′ ≡ length us) × (Front (λ _. noUpdate) n us v-us′ (suc i))) (⋆ 𝓤 H A (At (suc i) v-us′)) (e, len0, kept′)) (exI 𝓤 (λ (v-us : List Update). guard 𝓤 (((suc i) + t ≡ n) × (length v-us ≡ length us) × (Front (λ _. noUpdate) n us v-us (suc i))) (⋆ 𝓤 H A (At (suc i) v-us))) v-us′)) (exI 𝓤 (λ (i : ℕ). ex 𝓤 (λ (v-us : List Update). guard 𝓤 ((i + t ≡ n) × (length v-us ≡ length us) × (Front (λ _. noUpdate) n us v-us i)) (⋆ 𝓤 H A (At i v-us)))) (suc i)))
+        (via 𝓤 (ex 𝓤 (λ (v-us : List Update). guard 𝓤 (((suc i) + t ≡ n) × (length v-us ≡ length us) × (Front (λ _. noUpdate) n us v-us (suc i))) (⋆ 𝓤 H A (At (suc i) v-us)))) (via 𝓤 (guard 𝓤 (((suc i) + t ≡ n) × (length v-us′ ≡ length us) × (Front (λ _. noUpdate) n us v-us′ (suc i))) (⋆ 𝓤 H A (At (suc i) v-us′))) (guardI 𝓤 (((suc i) + t ≡ n) × (length v-us′ ≡ length us) × (Front (λ _. noUpdate) n us v-us′ (suc i))) (⋆ 𝓤 H A (At (suc i) v-us′)) (e, len-us′, kept′)) (exI 𝓤 (λ (v-us : List Update). guard 𝓤 (((suc i) + t ≡ n) × (length v-us ≡ length us) × (Front (λ _. noUpdate) n us v-us (suc i))) (⋆ 𝓤 H A (At (suc i) v-us))) v-us′)) (exI 𝓤 (λ (i : ℕ). ex 𝓤 (λ (v-us : List Update). guard 𝓤 ((i + t ≡ n) × (length v-us ≡ length us) × (Front (λ _. noUpdate) n us v-us i)) (⋆ 𝓤 H A (At i v-us)))) (suc i)))
         (via 𝓤 (guard 𝓤 (t < suc t) (Inv t)) (guardI 𝓤 (t < suc t) (Inv t) (lt-suc-self t)) (exI 𝓤 (λ (v : ℕ). guard 𝓤 (v < suc t) (Inv v)) t))
 
       turn-at : (t i : ℕ) (v-us : List Update) → ((i + t ≡ n) × (length v-us ≡ length us) × (Front (λ _. noUpdate) n us v-us i)) → ent 𝓤 (⋆ 𝓤 H A (At i v-us)) (Wp 𝓤 H C Λ En body.turn-1 (afterTurn 𝓤 H (Below t) Left))
       turn-at zero i v-us f = ends i v-us (sym (add-zero i) ∙ f .0) (f .1) (f .2) (Below 0)
-      turn-at (suc t) i v-us f = more i v-us (f .1) (f .2) (omega (arith, f .0)) (Below (suc t)) (λ v-us′ len0 kept′. below t i v-us′ (omega (arith, f .0)) len0 kept′)
+      turn-at (suc t) i v-us f = more i v-us (f .1) (f .2) (omega (arith, f .0)) (Below (suc t)) (λ v-us′ len-us′ kept′. below t i v-us′ (omega (arith, f .0)) len-us′ kept′)
 
       turns : (t : ℕ) → ent 𝓤 (Inv t) (Wp 𝓤 H C Λ En body.turn-1 (afterTurn 𝓤 H (Below t) Left))
       turns t = exE 𝓤 _ (λ i. exE 𝓤 _ (λ v-us. guardE 𝓤 _ _ (λ f. turn-at t i v-us f)))
