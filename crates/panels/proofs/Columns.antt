@@ -13,7 +13,8 @@ use borrow.Author.Tests.{lt-ltb, le-ltb}
 use lib.Ieee.{Float, nan, binary64, sub, mul, div}
 use Rattle.laws.proofs.Entry.{trap-suc, trap-mono, singly-same}
 use Rattle.areas.specs.Touch.{Touched}
-use Rattle.panels.specs.Dense.{cell, inner, pivot, Column}
+use Rattle.panel.specs.View.{cell}
+use Rattle.panels.specs.Dense.{inner, pivot, Column}
 use Rattle.areas.proofs.Touch as touch
 use Rattle.panels.proofs.Floats.{singly-start, singly-step}
 use Rattle.statement.specs.Shape.{trapezoid}

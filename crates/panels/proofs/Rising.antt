@@ -8,7 +8,7 @@ use lib.ListN.{getD}
 use lib.Ieee.{Float, nan, binary64, add, mul}
 use Rattle.laws.proofs.Entry.{trap-suc, trap-mono}
 use Rattle.areas.specs.Touch.{Touched}
-use Rattle.panels.specs.Dense.{cell}
+use Rattle.panel.specs.View.{cell}
 use Rattle.areas.proofs.Touch as touch
 use Rattle.panels.proofs.Floats.{dot-start, dot-step}
 use Rattle.statement.specs.Shape.{trapezoid}

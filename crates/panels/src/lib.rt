@@ -10,7 +10,9 @@ ghost use Rattle.statement.specs.Shape.{trapezoid};
 ghost use Rattle.statement.specs.Rules.{dot, singly, passes, panel};
 ghost use Rattle.laws.specs.Lower.{among, lowerValue, Lower};
 ghost use Rattle.areas.specs.Touch.{Touched};
-ghost use Rattle.panels.specs.Dense.{cell, inner, Column, Dense};
+ghost use Rattle.panel.specs.View.{cell};
+ghost use Rattle.panels.specs.Dense.{inner, Column, Dense};
+use panel::column_start;
 
 // The first n places are 0.0.
 pub fn clear(w: &mut [f64], n: usize)
@@ -51,17 +53,6 @@ pub fn sums(work: &mut [f64], v: &[f64], m: usize, q: usize, kw: usize)
         at = at + m - k - 1;
         k += 1;
     }
-}
-
-// Where column c of an m-row trapezoid starts.
-pub fn column_start(m: usize, c: usize) -> usize
-    requires { ⌜ (c ≤ m) × (m ≤ 32768) ⌝ }
-    ensures { λ r. ⌜ r ≡ trapezoid m c ⌝ }
-{
-    if c == 0 {
-        return 0;
-    }
-    c * m - c * (c - 1) / 2
 }
 
 // work is subtracted from the n places from `at`.
