@@ -13,6 +13,7 @@ ghost use Rattle.areas.specs.Touch.{Touched};
 ghost use Rattle.panel.specs.View.{cell};
 ghost use Rattle.panels.specs.Dense.{inner, Column, Dense};
 use panel::column_start;
+use panel::panel_column;
 
 // The first n places are 0.0.
 pub fn clear(w: &mut [f64], n: usize)
@@ -47,10 +48,8 @@ pub fn sums(work: &mut [f64], v: &[f64], m: usize, q: usize, kw: usize)
     let n = m - q;
     clear(work, n);
     let mut k = 0;
-    let mut at = q;
     while k < kw {
-        add1(work, v, at, n);
-        at = at + m - k - 1;
+        add1(work, panel_column(v, m, k), q - k, n);
         k += 1;
     }
 }

@@ -13,6 +13,7 @@ use Rattle.laws.specs.Lent.{Walkable}
 use Rattle.laws.proofs.Columns.{rows-in, start-in}
 use Rattle.laws.proofs.Entry.{trap-suc, trap-mono}
 use Rattle.laws.proofs.Walked.{Whole, whole}
+use Rattle.panel.proofs.Cells.{within, column-length}
 use Rattle.solving.specs.Walk.{Column, Block, Supernode}
 use Rattle.panel.specs.View.{columnOf, Within}
 use Rattle.areas.proofs.Tail.{tail-lent}
@@ -25,8 +26,8 @@ trap-next m c = rw add-one (trap-suc m c)
 
 -- column c of w: its rows, and its values u
 module _ {rows : List ℕ} {values : List Float} {f w n : ℕ} (b : Block rows values f w n) (c : ℕ) (h : c < w) where
-  pub within : Within (length rows) values c
-  within = record { inside = omega (arith, b .wide); few = b .few; room = omega (arith, b .room, trap-next (length rows) c, trap-mono (length rows) (c + 1) w (omega arith)) }
+  pub column-within : Within (length rows) values c
+  column-within = within (length rows) values c w h (b .wide) (b .few) (b .room)
 
   own-long : length (drop c rows) ≡ length rows - c
   own-long = length-drop c rows
@@ -36,7 +37,7 @@ module _ {rows : List ℕ} {values : List Float} {f w n : ℕ} (b : Block rows v
     one-column =
         rw (tail-lent c rows) (record {
           some = omega (arith, own-long, b .wide);
-          long = own-long ∙ sym (length-take-le (length rows - c) (drop (trapezoid (length rows) c) values) (rw length-drop (omega (arith, within .room)))) ∙ ap length (sym e);
+          long = own-long ∙ sym (column-length column-within) ∙ ap length (sym e);
           inside = omega (arith, b .cols);
           low = λ i l. rw (getD-drop c rows i 0) (b .low (c + i) (omega (arith, own-long)));
         })

@@ -8,7 +8,7 @@ use lib.ListN.{length}
 use Rattle.statement.specs.Solve.{backward}
 use Rattle.statement.specs.Shape.{Shape}
 use Rattle.solving.specs.Walk.{Supernode}
-use Rattle.solving.proofs.Walk.{within, one-column, column-rows, column-values, backward-less}
+use Rattle.solving.proofs.Walk.{column-within, one-column, column-rows, column-values, backward-less}
 use Rattle.solving.proofs.backward_columns.Statement.{statement}
 use Rattle.solving.proofs.backward_columns.Tie as tie
 
@@ -48,7 +48,7 @@ panel-column-requires : tie.Need-panel-column-requires Inv-loop μ-loop
 panel-column-requires c κs =
     let pre′ = c .before .before .before .before .before .before .pre in
     let loop′ = c .before .before .loop in
-    within (pre′) (loop′ .c - 1) (omega arith)
+    column-within (pre′) (loop′ .c - 1) (omega arith)
 
 add-backward-column : tie.Need-add-backward-column Inv-loop μ-loop
 add-backward-column c =

@@ -8,7 +8,7 @@ use lib.ListN.{length}
 use Rattle.statement.specs.Solve.{forward}
 use Rattle.statement.specs.Shape.{Shape}
 use Rattle.solving.specs.Walk.{Supernode}
-use Rattle.solving.proofs.Walk.{within, one-column, column-rows, column-values, forward-more}
+use Rattle.solving.proofs.Walk.{column-within, one-column, column-rows, column-values, forward-more}
 use Rattle.solving.proofs.forward_columns.Statement.{statement}
 use Rattle.solving.proofs.forward_columns.Tie as tie
 
@@ -45,7 +45,7 @@ panel-column-requires : tie.Need-panel-column-requires Inv-loop μ-loop
 panel-column-requires c κs =
     let pre′ = c .before .before .before .before .before .before .pre in
     let loop′ = c .before .before .loop in
-    within (pre′) (loop′ .c) (omega arith)
+    column-within (pre′) (loop′ .c) (omega arith)
 
 add-forward-column : tie.Need-add-forward-column Inv-loop μ-loop
 add-forward-column c =
