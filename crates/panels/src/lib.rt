@@ -14,6 +14,7 @@ ghost use Rattle.panel.specs.View.{cell};
 ghost use Rattle.panels.specs.Dense.{inner, Column, Dense};
 use panel::column_start;
 use panel::panel_column;
+use panel::panel_entry;
 
 // The first n places are 0.0.
 pub fn clear(w: &mut [f64], n: usize)
@@ -146,9 +147,9 @@ fn column(own: &mut [f64], work: &mut [f64], m: usize, c: usize, a: f64) -> bool
     ensures { λ r. ⌜ Column m c a (now (own .entry)) (now (own .exit)) r ⌝ }
 {
     reduce(own, work, m, c);
-    let at = column_start(m, c);
-    let d = own[at];
+    let d = panel_entry(own, m, c, c);
     if good_pivot(a, d) {
+        let at = column_start(m, c);
         let r = root::root(d);
         own[at] = r;
         divide(own, at + 1, m - c - 1, r);

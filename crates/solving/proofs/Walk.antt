@@ -5,24 +5,20 @@ use Prim.Native.Nat.{ℕ, suc, _+_, _-_, _<_, _≤_}
 use native.Mathlib.Omega.{arith}
 use native.Mathlib.Numerals.{add-one}
 use lib.ListN.{length, getD, take, drop, length-drop}
-use lib.Seq.{length-take-le, getD-drop, drop-drop}
+use lib.Seq.{getD-drop, drop-drop}
 use lib.Ieee.{Float}
 use Rattle.statement.specs.Shape.{Shape, supernodes, first, trapezoid, offset}
 use Rattle.statement.specs.Solve.{rowsIn, startIn, valuesIn, forwardAt, forward, backwardAt, backward}
 use Rattle.laws.specs.Lent.{Walkable}
 use Rattle.laws.proofs.Columns.{rows-in, start-in}
-use Rattle.laws.proofs.Entry.{trap-suc, trap-mono}
 use Rattle.laws.proofs.Walked.{Whole, whole}
+use Rattle.areas.proofs.Tail.{tail-lent}
+use Rattle.panel.specs.View.{columnOf, Within}
 use Rattle.panel.proofs.Cells.{within, column-length}
 use Rattle.solving.specs.Walk.{Column, Block, Supernode}
-use Rattle.panel.specs.View.{columnOf, Within}
-use Rattle.areas.proofs.Tail.{tail-lent}
 use Rattle.solving.proofs.Rules.{rest-long}
 
 -- ---- columns
-
-pub trap-next : (m c : ℕ) → trapezoid m (c + 1) ≡ trapezoid m c + (m - c)
-trap-next m c = rw add-one (trap-suc m c)
 
 -- column c of w: its rows, and its values u
 module _ {rows : List ℕ} {values : List Float} {f w n : ℕ} (b : Block rows values f w n) (c : ℕ) (h : c < w) where

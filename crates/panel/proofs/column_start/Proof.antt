@@ -1,13 +1,13 @@
 -- `panel::column_start` meets its contract. The trapezoid's closed form, and no product wraps. Assumes nothing.
 use mathlib.Core.Path.{sym, ap}
-use borrow.Author.Needs.{needs}
 use Prim.Native.Nat.{_-_}
 use native.Mathlib.Omega.{arith}
+use borrow.Author.Needs.{needs}
+use Rattle.statement.specs.Shape.{trapezoid}
 use Rattle.laws.proofs.Loops.{trapezoid-is}
 use Rattle.panel.proofs.Starts.{prod-fits, half-le}
 use Rattle.panel.proofs.column_start.Statement.{statement}
 use Rattle.panel.proofs.column_start.Tie as tie
-use Rattle.statement.specs.Shape.{trapezoid}
 
 returns : tie.Need-returns
 unfolding trapezoid
