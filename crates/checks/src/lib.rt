@@ -6,11 +6,12 @@ ghost use Prim.Native.Nat.{ℕ, suc, _+_, _-_, _^_, _≤_, _<_};
 ghost use lib.ListN.{length, getD, replicate};
 ghost use lib.Dec.{eqb, leb, ltb};
 ghost use Rattle.statement.specs.Lists.{every, tally};
-ghost use Rattle.statement.specs.Shape.{Shape, first, width, rowsOf, trapezoid, offset};
+ghost use Rattle.statement.specs.Shape.{Shape, first, width, rowsOf, offset};
 ghost use Rattle.statement.specs.Solve.{fullRecord, permutes, risingColumns, goodSupernode, risingRows, sized, viewable, solvable};
 ghost use Rattle.laws.specs.Lent.{lent, laid, Fitted, Framed, Walkable};
 use answers::is_full;
 use areas::clear_words;
+use panel::column_start;
 use statement::Record;
 
 // The numbers of l stay below n.
@@ -218,21 +219,6 @@ pub fn rising_rows(record: Record, firsts: &[usize], starts: &[usize], rows: &[u
     good_supernodes(record.n, firsts, starts, rows)
 }
 
-// The entries of the first w columns of an m-row trapezoid.
-pub fn trapezoid(m: usize, w: usize) -> usize
-    requires { ⌜ w ≤ m ⌝ }
-    requires { ⌜ trapezoid m w < 2 ^ 64 ⌝ }
-    ensures { λ r. ⌜ r ≡ trapezoid m w ⌝ }
-{
-    let mut sum: usize = 0;
-    let mut c: usize = 0;
-    while c < w {
-        sum += m - c;
-        c += 1;
-    }
-    sum
-}
-
 // Where supernode k's stretch starts in the values: the sum of the trapezoids before it.
 pub fn offset(n: usize, firsts: &[usize], starts: &[usize], rows: &[usize], k: usize) -> usize
     requires { ⌜ Walkable (laid n (now firsts) (now starts) (now rows)) ⌝ }
@@ -244,7 +230,7 @@ pub fn offset(n: usize, firsts: &[usize], starts: &[usize], rows: &[usize], k: u
     while j < k {
         let w = firsts[j + 1] - firsts[j];
         let m = starts[j + 1] - starts[j];
-        sum += trapezoid(m, w);
+        sum += column_start(m, w);
         j += 1;
     }
     sum

@@ -6,7 +6,7 @@ ghost use lib.ListN.{length, drop};
 ghost use Rattle.statement.specs.Lists.{list};
 ghost use Rattle.statement.specs.Shape.{Shape, offset};
 ghost use Rattle.offsets.specs.Lent.{Rising, Of};
-use panels::column_start;
+use panel::column_start;
 
 // The first ns of to are the starts of the ns stretches, and the end of the last is returned.
 pub fn offsets(ns: usize, firsts: &[usize], starts: &[usize], to: &mut [usize]) -> usize

@@ -13,7 +13,8 @@ use borrow.Author.Tests.{lt-ltb, le-ltb}
 use lib.Ieee.{Float, nan, binary64, sub, mul, div}
 use Rattle.laws.proofs.Entry.{trap-suc, trap-mono, singly-same}
 use Rattle.areas.specs.Touch.{Touched}
-use Rattle.panels.specs.Dense.{cell, inner, pivot, Column}
+use Rattle.panel.specs.View.{cell}
+use Rattle.panels.specs.Dense.{inner, pivot, Column}
 use Rattle.areas.proofs.Touch as touch
 use Rattle.panels.proofs.Floats.{singly-start, singly-step}
 use Rattle.statement.specs.Shape.{trapezoid}
@@ -113,13 +114,10 @@ module _ (old : List Float) (m c : ℕ) where
   pub reduced-at : (w : List Float) → Reduced w → (p : ℕ) → c ≤ p → p < m → cell m w p c ≡ inner m old p c (cell m old p c)
   reduced-at w t p h l = t .inside (p - c) (omega arith) ∙ ap (λ z. inner m old z c (cell m old p c)) (add-sub-of-le h)
 
-  module _ (a : Float) (w : List Float) (at : ℕ) (b : Bool) (e : at ≡ trapezoid m c) (h : c < m)
-      (room : trapezoid m c + (m - c) ≤ length old) (t : Reduced w) (g : b ≡ passes a (getD w at nan)) where
-    same : at ≡ trapezoid m c + (c - c)
-    same = omega arith
-
-    d-is : getD w at nan ≡ pivot m old c
-    d-is = ap (λ x. getD w x nan) same ∙ reduced-at w t c (omega arith) h
+  module _ (a d : Float) (w : List Float) (b : Bool) (h : c < m)
+      (room : trapezoid m c + (m - c) ≤ length old) (t : Reduced w) (e : d ≡ cell m w c c) (g : b ≡ passes a d) where
+    d-is : d ≡ pivot m old c
+    d-is = e ∙ reduced-at w t c (omega arith) h
 
     good-is : (s : Bool) → b ≡ s → s ≡ passes a (pivot m old c)
     good-is s f = sym f ∙ g ∙ ap (passes a) d-is
@@ -134,9 +132,9 @@ module _ (old : List Float) (m c : ℕ) where
           outside = λ x q. t .outside x (λ i l s. q (omega arith) (omega arith));
         }
 
-    pub column-yes : (v : List Float) (r : Float) → b ≡ true → r ≡ root (getD w at nan) →
+    pub column-yes : (v : List Float) (r : Float) (at : ℕ) → at ≡ trapezoid m c → b ≡ true → r ≡ root d →
         Touched nan (set w at r) v (m - c - 1) (λ i. at + 1 + i) (λ i. div binary64 (getD (set w at r) (at + 1 + i) nan) r) → Column m c a old v true
-    column-yes v r f k u =
+    column-yes v r at here f k u =
         record {
           size = u .size ∙ length-set w at r ∙ t .size;
           good = good-is true f;
@@ -155,6 +153,9 @@ module _ (old : List Float) (m c : ℕ) where
               t .outside x (λ i l s. q (omega arith) (omega arith));
         }
       where
+        same : at ≡ trapezoid m c + (c - c)
+        same = omega arith
+
         r-is : r ≡ root (pivot m old c)
         r-is = k ∙ ap root d-is
 

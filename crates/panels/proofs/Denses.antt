@@ -10,7 +10,8 @@ use lib.ListN.{length, getD}
 use lib.Dec.{ltb}
 use lib.Ieee.{Float, nan, binary64, sub, div}
 use Rattle.laws.proofs.Entry.{trap-suc, trap-mono, dot-same, singly-same}
-use Rattle.panels.specs.Dense.{cell, inner, Column, Ruled, Dense}
+use Rattle.panel.specs.View.{cell}
+use Rattle.panels.specs.Dense.{inner, Column, Ruled, Dense}
 use Rattle.statement.specs.Shape.{trapezoid}
 use Rattle.statement.specs.Root.{root}
 use Rattle.statement.specs.Rules.{singly, panel, passes}

@@ -8,16 +8,13 @@ use lib.ListN.{getD}
 use lib.Ieee.{Float, nan, binary64, add, mul}
 use Rattle.laws.proofs.Entry.{trap-suc, trap-mono}
 use Rattle.areas.specs.Touch.{Touched}
-use Rattle.panels.specs.Dense.{cell}
+use Rattle.panel.specs.View.{columnOf, cell}
+use Rattle.panel.proofs.Cells.{cell-in}
 use Rattle.areas.proofs.Touch as touch
 use Rattle.panels.proofs.Floats.{dot-start, dot-step}
 use Rattle.statement.specs.Shape.{trapezoid}
 use Rattle.statement.specs.Input.{+0}
 use Rattle.statement.specs.Rules.{dot}
-
--- where row q + i of column k lies
-pub at-row : (t q i k at : ℕ) → k ≤ q → at ≡ t + (q - k) → at + i ≡ t + (q + i - k)
-at-row t q i k at h e = omega arith
 
 module _ (old v : List Float) (m q n : ℕ) where
   abbrev pub Summed : List Float → ℕ → Type 0
@@ -27,13 +24,20 @@ module _ (old v : List Float) (m q n : ℕ) where
   summed-none e =
       record { size = refl; inside = λ i h. e i h ∙ dot-start (cell m v (q + i)) (cell m v q); outside = λ p h. refl }
 
-  pub summed-more : (w w′ : List Float) (k at : ℕ) → Summed w k → k ≤ q → at ≡ trapezoid m k + (q - k) →
-      Touched nan w w′ n (λ i. i) (λ i. add binary64 (getD w i nan) (mul binary64 (getD v (at + i) nan) (getD v at nan))) → Summed w′ (k + 1)
-  summed-more w w′ k at t h e u =
-      touch.again nan old w n (λ i. i) (λ i. dot (cell m v (q + i)) (cell m v q) k) _ w′ _ t u
+  -- u is column k
+  pub summed-more : (w w′ u : List Float) (k : ℕ) → Summed w k → k ≤ q → n + q ≤ m → u ≡ columnOf m v k →
+      Touched nan w w′ n (λ i. i) (λ i. add binary64 (getD w i nan) (mul binary64 (getD u (q - k + i) nan) (getD u (q - k) nan))) → Summed w′ (k + 1)
+  summed-more w w′ u k t h l e a =
+      touch.again nan old w n (λ i. i) (λ i. dot (cell m v (q + i)) (cell m v q) k) _ w′ _ t a
       (λ i p.
-      ap₂ (add binary64) (t .inside i p) (ap₂ (mul binary64) (ap (λ x. getD v x nan) (at-row (trapezoid m k) q i k at h e)) (ap (λ x. getD v x nan) e)) ∙
+      ap₂ (add binary64) (t .inside i p) (ap₂ (mul binary64) (ap (λ x. getD u x nan) (row i) ∙ at (q + i) (omega arith) (omega arith)) (at q h (omega arith))) ∙
       dot-step (cell m v (q + i)) (cell m v q) k)
+    where
+      row : (i : ℕ) → q - k + i ≡ q + i - k
+      row i = omega arith
+
+      at : (p : ℕ) → k ≤ p → p < m → getD u (p - k) nan ≡ cell m v p k
+      at p h l = ap (λ x. getD x (p - k) nan) e ∙ cell-in m v p k h l
 
   pub summed-at : (w : List Float) (k kw : ℕ) → Summed w k → k ≤ kw → kw ≤ k → Summed w kw
   summed-at w k kw t h l = subst (Summed w) (same k kw h l) t

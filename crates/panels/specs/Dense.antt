@@ -9,10 +9,7 @@ use lib.Ieee.{Float, nan, binary64, sub, div}
 use Rattle.statement.specs.Shape.{trapezoid}
 use Rattle.statement.specs.Root.{root}
 use Rattle.statement.specs.Rules.{dot, singly, panel, passes}
-
--- row p of column c of the m-row trapezoid at the start of s
-abbrev pub cell : ℕ → List Float → ℕ → ℕ → Float
-cell m s p c = getD s (trapezoid m c + (p - c)) nan
+use Rattle.panel.specs.View.{cell}
 
 -- row p of column c, less the products of the columns before c: x is what stands there before
 unfoldable pub inner : ℕ → List Float → ℕ → ℕ → Float → Float

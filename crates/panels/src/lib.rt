@@ -10,7 +10,11 @@ ghost use Rattle.statement.specs.Shape.{trapezoid};
 ghost use Rattle.statement.specs.Rules.{dot, singly, passes, panel};
 ghost use Rattle.laws.specs.Lower.{among, lowerValue, Lower};
 ghost use Rattle.areas.specs.Touch.{Touched};
-ghost use Rattle.panels.specs.Dense.{cell, inner, Column, Dense};
+ghost use Rattle.panel.specs.View.{cell};
+ghost use Rattle.panels.specs.Dense.{inner, Column, Dense};
+use panel::column_start;
+use panel::panel_column;
+use panel::panel_entry;
 
 // The first n places are 0.0.
 pub fn clear(w: &mut [f64], n: usize)
@@ -45,23 +49,10 @@ pub fn sums(work: &mut [f64], v: &[f64], m: usize, q: usize, kw: usize)
     let n = m - q;
     clear(work, n);
     let mut k = 0;
-    let mut at = q;
     while k < kw {
-        add1(work, v, at, n);
-        at = at + m - k - 1;
+        add1(work, panel_column(v, m, k), q - k, n);
         k += 1;
     }
-}
-
-// Where column c of an m-row trapezoid starts.
-pub fn column_start(m: usize, c: usize) -> usize
-    requires { ⌜ (c ≤ m) × (m ≤ 32768) ⌝ }
-    ensures { λ r. ⌜ r ≡ trapezoid m c ⌝ }
-{
-    if c == 0 {
-        return 0;
-    }
-    c * m - c * (c - 1) / 2
 }
 
 // work is subtracted from the n places from `at`.
@@ -156,9 +147,9 @@ fn column(own: &mut [f64], work: &mut [f64], m: usize, c: usize, a: f64) -> bool
     ensures { λ r. ⌜ Column m c a (now (own .entry)) (now (own .exit)) r ⌝ }
 {
     reduce(own, work, m, c);
-    let at = column_start(m, c);
-    let d = own[at];
+    let d = panel_entry(own, m, c, c);
     if good_pivot(a, d) {
+        let at = column_start(m, c);
         let r = root::root(d);
         own[at] = r;
         divide(own, at + 1, m - c - 1, r);

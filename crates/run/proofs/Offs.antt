@@ -9,7 +9,7 @@ use Rattle.statement.specs.Shape.{Shape, width, height, trapezoid, size, offset
 use Rattle.laws.proofs.Stretches.{offset-suc}
 use Rattle.laws.proofs.Loops.{trapezoid-is}
 use Rattle.areas.proofs.Front.{Front, front-start, front-more}
-use Rattle.panels.proofs.Starts.{prod-fits}
+use Rattle.panel.proofs.Starts.{prod-fits}
 use Rattle.step.specs.Ready.{Rows}
 use Rattle.step.proofs.Gather.{height-le}
 

@@ -32,7 +32,7 @@ pub fn offsets(
         offs[k] = at;
         let w = first[k + 1] - first[k];
         let m = starts[k + 1] - starts[k];
-        at = at + panels::column_start(m, w);
+        at = at + panel::column_start(m, w);
         k += 1;
     }
 }

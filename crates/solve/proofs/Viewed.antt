@@ -7,13 +7,14 @@ use native.Mathlib.Omega.{arith}
 use native.Mathlib.Decide.{decLt}
 use native.Mathlib.Numerals.{add-one}
 use lib.ListN.{length, getD, take, drop, length-drop}
-use lib.Seq.{length-take-le}
+use lib.Seq.{length-take-le, drop-drop}
 use lib.Ieee.{Float}
 use borrow.Author.Tests.{lt-ltb}
 use Rattle.statement.specs.Shape.{Shape, supernodes, first, height, rowsOf, trapezoid, offset}
 use Rattle.statement.specs.Solve.{FactorAreas, viewable, rowsIn, startIn, valuesIn, view}
 use Rattle.statement.specs.declared.Factored.{Factored}
 use Rattle.statement.specs.declared.Record.{Record}
+use Rattle.panel.specs.View.{columnOf, Within}
 use Rattle.laws.specs.Lent.{laid, Walkable}
 use Rattle.laws.proofs.Checked.{Viewed, viewed, cut}
 use Rattle.laws.proofs.Columns.{owner-of}
@@ -21,6 +22,7 @@ use Rattle.laws.proofs.Entry.{trap-suc, trap-mono}
 use Rattle.laws.proofs.Stretches.{offset-mono}
 use Rattle.laws.proofs.Taken.{true-T}
 use Rattle.laws.proofs.Walked.{Whole, whole}
+use Rattle.areas.proofs.Tail.{tail-lent, tail-length}
 use Rattle.solve.specs.Found.{Owned}
 
 -- the next supernode starts at or before q, so it is not the end
@@ -49,7 +51,7 @@ module _ (S : Shape) (walk : Walkable S) (q k : ℕ) (o : Owned (S .firsts) q k)
   past : q < first S (k + 1)
   past = rw add-one (o .to)
 
-  pub at-in : at < tall
+  at-in : at < tall
   at-in = omega (arith, past, o .from, u .wide)
 
   pub part-in : offset S k + trapezoid tall at + (tall - at) ≤ offset S (supernodes S)
@@ -69,12 +71,17 @@ module _ (S : Shape) (walk : Walkable S) (q k : ℕ) (o : Owned (S .firsts) q k)
   unfolding startIn
   starts-at = ap (λ K. offset S K + trapezoid (height S K) (q - first S K)) (sym (o .is)) ∙ ap (λ m. offset S k + trapezoid m at) (u .node .tall)
 
-  pub part-is : (v : List Float) (s t : ℕ) → s ≡ offset S k → t ≡ trapezoid tall at → take (s + t + (tall - at) - (s + t)) (drop (s + t) v) ≡ valuesIn S v q
-  unfolding valuesIn
-  part-is v s t e d =
-      let z : s + t + (tall - at) - (s + t) ≡ tall - at = omega arith in
-      let y : s + t ≡ offset S k + trapezoid tall at = omega arith in
-      ap₂ (λ a b. take a (drop b v)) (z ∙ sym rows-long) (y ∙ sym starts-at)
+  -- its panel: the values from s to the end
+  module _ (v : List Float) (s : ℕ) (e : s ≡ offset S k) where
+    pub part-within : offset S (supernodes S) ≤ length v → S .n ≤ 32768 → Within tall (take (length v - s) (drop s v)) at
+    part-within room few = record { inside = at-in; few = omega (arith, u .few); room = omega (arith, part-in, tail-length s v (omega (arith, part-in))) }
+
+    pub part-is : columnOf tall (take (length v - s) (drop s v)) at ≡ valuesIn S v q
+    unfolding valuesIn
+    part-is =
+        ap (λ l. columnOf tall l at) (tail-lent s v)
+        ∙ ap (take (tall - at)) (drop-drop (trapezoid tall at) s v)
+        ∙ ap₂ (λ a b. take a (drop b v)) (sym rows-long) (ap (λ z. z + trapezoid tall at) e ∙ sym starts-at)
 
 -- the first supernode starts at or before q, which lies before the end
 pub owner-start : (F : List ℕ) (q : ℕ) → getD F 0 0 ≤ q → q < getD F (length F - 1) 0 → 0 < length F - 1

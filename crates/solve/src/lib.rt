@@ -10,8 +10,8 @@ use areas::clear_floats;
 use areas::clear_words;
 use checks::offset;
 use checks::solvable;
-use checks::trapezoid;
 use checks::viewable;
+use panel::panel_column;
 use solving::solve_one;
 use statement::Answer;
 use statement::Factored;
@@ -109,9 +109,8 @@ fn column_part<'a>(
     let k = owner(firsts, q);
     let c = q - firsts[k];
     let m = starts[k + 1] - starts[k];
-    let o = offset(n, firsts, starts, rows, k) + trapezoid(m, c);
-    let e = o + (m - c);
-    &values[o..e]
+    let off = offset(n, firsts, starts, rows, k);
+    panel_column(&values[off..], m, c)
 }
 
 // The part of the values that is one column, diagonal first; empty on failure or for a column not below n.

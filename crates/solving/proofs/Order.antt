@@ -99,6 +99,7 @@ module _ (R : Record) (f : FactorAreas) (m : ℕ) (e : m ≡ R .n) where
       let v = r .viewed in
       rw part-is (record {
         walk = v .walkable;
+        few = omega (arith, v .fitted .columns, v .roomy .small);
         sized = v .entries ∙ ap (offset (shapeIn R f)) (let z : R .supernodes ≡ supernodes (shapeIn R f) = omega (arith, v .fitted .firsts) in z);
         room = v .roomy .values;
         long = omega (arith, v .fitted .columns, v .roomy .permutation);

@@ -3,22 +3,19 @@ use mathlib.Core.Path.{_≡_, ap, _∙_}
 use mathlib.Core.List.{List}
 use Prim.Native.Nat.{ℕ, _+_, _-_, _<_}
 use native.Mathlib.Omega.{arith}
-use native.Mathlib.Nat.{le-refl}
 use native.Mathlib.Numerals.{add-one}
 use lib.ListN.{length, getD, set, take, drop, length-drop}
-use lib.Seq.{drop-cons, drop-length, take-all}
+use lib.Seq.{drop-cons, drop-length}
 use lib.Ieee.{Float, nan, binary64, sub, mul, div}
 use Rattle.statement.specs.Input.{+0}
 use Rattle.statement.specs.Shape.{Shape}
 use Rattle.statement.specs.Solve.{rowsIn, valuesIn, lessBelow, lessAbove, forwardAt, backwardAt}
+use Rattle.areas.proofs.Tail.{tail-lent}
 use Rattle.areas.proofs.Lists.{getD-any}
 
 -- a part lent from a to the end
-pub rest-is : {A : Type 0} (a : ℕ) (l : List A) → take (length l - a) (drop a l) ≡ drop a l
-rest-is a l = take-all (length l - a) (drop a l) (simp length-drop (le-refl _))
-
 pub rest-long : {A : Type 0} (a : ℕ) (l : List A) → length (take (length l - a) (drop a l)) ≡ length l - a
-rest-long a l = ap length (rest-is a l) ∙ length-drop a l
+rest-long a l = ap length (tail-lent a l) ∙ length-drop a l
 
 module _ (rows : List ℕ) (values : List Float) (i : ℕ) (h : i < length rows) (e : length rows ≡ length values) where
   pub below-more : (x : List Float) (y : Float) → getD rows i 0 < length x → lessBelow x y (drop i rows) (drop i values)
@@ -47,9 +44,9 @@ module _ (rows : List ℕ) (values : List Float) (q : ℕ) (x z : List Float) (s
   pub forward-is : z ≡ lessBelow (set x q (div binary64 (getD x q nan) (getD values 0 nan))) (div binary64 (getD x q nan) (getD values 0 nan)) (take (length rows - 1) (drop 1 rows)) (take (length values - 1) (drop 1 values))
       → z ≡ forwardAt S v x q
   unfolding forwardAt
-  forward-is h = rw (← e, ← p, getD-any x q +0 nan inside, getD-any values 0 +0 nan some) (h ∙ ap (λ l. lessBelow (set x q (div binary64 (getD x q nan) (getD values 0 nan))) (div binary64 (getD x q nan) (getD values 0 nan)) l (take (length values - 1) (drop 1 values))) (rest-is 1 rows) ∙ ap (lessBelow (set x q (div binary64 (getD x q nan) (getD values 0 nan))) (div binary64 (getD x q nan) (getD values 0 nan)) (drop 1 rows)) (rest-is 1 values))
+  forward-is h = rw (← e, ← p, getD-any x q +0 nan inside, getD-any values 0 +0 nan some) (h ∙ ap (λ l. lessBelow (set x q (div binary64 (getD x q nan) (getD values 0 nan))) (div binary64 (getD x q nan) (getD values 0 nan)) l (take (length values - 1) (drop 1 values))) (tail-lent 1 rows) ∙ ap (lessBelow (set x q (div binary64 (getD x q nan) (getD values 0 nan))) (div binary64 (getD x q nan) (getD values 0 nan)) (drop 1 rows)) (tail-lent 1 values))
 
   pub backward-is : (t : Float) → t ≡ lessAbove (getD x q nan) x (take (length rows - 1) (drop 1 rows)) (take (length values - 1) (drop 1 values))
       → set x q (div binary64 t (getD values 0 nan)) ≡ backwardAt S v x q
   unfolding backwardAt
-  backward-is t h = rw (← e, ← p, getD-any x q +0 nan inside, getD-any values 0 +0 nan some) (ap (λ u. set x q (div binary64 u (getD values 0 nan))) (h ∙ ap (λ l. lessAbove (getD x q nan) x l (take (length values - 1) (drop 1 values))) (rest-is 1 rows) ∙ ap (lessAbove (getD x q nan) x (drop 1 rows)) (rest-is 1 values)))
+  backward-is t h = rw (← e, ← p, getD-any x q +0 nan inside, getD-any values 0 +0 nan some) (ap (λ u. set x q (div binary64 u (getD values 0 nan))) (h ∙ ap (λ l. lessAbove (getD x q nan) x l (take (length values - 1) (drop 1 values))) (tail-lent 1 rows) ∙ ap (lessAbove (getD x q nan) x (drop 1 rows)) (tail-lent 1 values)))

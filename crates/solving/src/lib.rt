@@ -7,10 +7,12 @@ ghost use lib.ListN.{length, getD};
 ghost use lib.Ieee.{Float};
 ghost use Rattle.statement.specs.Lists.{place, list};
 ghost use Rattle.statement.specs.Input.{+0};
-ghost use Rattle.statement.specs.Shape.{Shape, trapezoid, offset};
+ghost use Rattle.statement.specs.Shape.{Shape, offset};
 ghost use Rattle.statement.specs.Solve.{shapeIn, permutes, solvable, rowsIn, valuesIn, lessBelow, lessAbove, forwardAt, forward, backwardAt, backward, solution};
 ghost use Rattle.laws.specs.Lent.{lent, laid, Walkable};
 ghost use Rattle.solving.specs.Walk.{Column, Block, Supernode, Solving};
+use panel::column_start;
+use panel::panel_column;
 use statement::Record;
 
 // x, less the value times y at each row.
@@ -64,55 +66,30 @@ fn backward_column(rows: &[usize], values: &[f64], q: usize, x: &mut [f64])
     x[q] = z / d;
 }
 
-// A supernode's w columns from f, rising, its values from off. Returns where the next one's start.
-fn forward_columns(
-    rows: &[usize],
-    values: &[f64],
-    off: usize,
-    f: usize,
-    w: usize,
-    x: &mut [f64],
-) -> usize
-    requires { ⌜ Block (now rows) (now values) off f w (length (now x)) ⌝ }
-    ensures { λ r. ⌜ r ≡ off + trapezoid (length (now (rows .entry))) w ⌝ }
-    ensures { λ _. ⌜ ((S : Shape) (K : ℕ) (x₀ : List Float) → Supernode S K (now (rows .entry)) off f w → now (x .entry) ≡ forward S (now (values .entry)) x₀ f → now (x .exit) ≡ forward S (now (values .entry)) x₀ (f + w)) ⌝ }
+// A supernode's w columns from f, rising: each is a column of the panel of its rows.
+fn forward_columns(rows: &[usize], values: &[f64], f: usize, w: usize, x: &mut [f64])
+    requires { ⌜ Block (now rows) (now values) f w (length (now x)) ⌝ }
+    ensures { λ _. ⌜ ((S : Shape) (K : ℕ) (v x₀ : List Float) → Supernode S K v (now (rows .entry)) (now (values .entry)) f w → now (x .entry) ≡ forward S v x₀ f → now (x .exit) ≡ forward S v x₀ (f + w)) ⌝ }
 {
     let m = rows.len();
-    let mut o = off;
     let mut c: usize = 0;
     while c < w {
-        let e = o + (m - c);
-        forward_column(&rows[c..], &values[o..e], f + c, x);
-        o = e;
+        forward_column(&rows[c..], panel_column(values, m, c), f + c, x);
         c += 1;
     }
-    o
 }
 
-// The same columns, falling, their values up to end. Returns where they start.
-fn backward_columns(
-    rows: &[usize],
-    values: &[f64],
-    end: usize,
-    f: usize,
-    w: usize,
-    x: &mut [f64],
-) -> usize
-    requires { ⌜ trapezoid (length (now rows)) w ≤ end ⌝ }
-    requires { ⌜ Block (now rows) (now values) (end - trapezoid (length (now rows)) w) f w (length (now x)) ⌝ }
-    ensures { λ r. ⌜ r ≡ end - trapezoid (length (now (rows .entry))) w ⌝ }
-    ensures { λ _. ⌜ ((S : Shape) (K : ℕ) → Supernode S K (now (rows .entry)) (end - trapezoid (length (now (rows .entry))) w) f w → backward S (now (values .entry)) (now (x .entry)) (f + w) ≡ backward S (now (values .entry)) (now (x .exit)) f) ⌝ }
+// The same columns, falling.
+fn backward_columns(rows: &[usize], values: &[f64], f: usize, w: usize, x: &mut [f64])
+    requires { ⌜ Block (now rows) (now values) f w (length (now x)) ⌝ }
+    ensures { λ _. ⌜ ((S : Shape) (K : ℕ) (v : List Float) → Supernode S K v (now (rows .entry)) (now (values .entry)) f w → backward S v (now (x .entry)) (f + w) ≡ backward S v (now (x .exit)) f) ⌝ }
 {
     let m = rows.len();
-    let mut e = end;
     let mut c = w;
     while c > 0 {
         c -= 1;
-        let o = e - (m - c);
-        backward_column(&rows[c..], &values[o..e], f + c, x);
-        e = o;
+        backward_column(&rows[c..], panel_column(values, m, c), f + c, x);
     }
-    e
 }
 
 // Supernode k, rising. Returns where the next one's values start.
@@ -128,7 +105,7 @@ fn forward_supernode(
     requires { ⌜ Walkable (laid (length (now x)) (now firsts) (now starts) (now rows)) ⌝ }
     requires { ⌜ k < length (now firsts) - 1 ⌝ }
     requires { ⌜ off ≡ offset (laid (length (now x)) (now firsts) (now starts) (now rows)) k ⌝ }
-    requires { ⌜ offset (laid (length (now x)) (now firsts) (now starts) (now rows)) (suc k) ≤ length (now values) ⌝ }
+    requires { ⌜ (offset (laid (length (now x)) (now firsts) (now starts) (now rows)) (suc k) ≤ length (now values)) × (length (now x) ≤ 32768) ⌝ }
     ensures { λ r. ⌜ r ≡ offset (laid (length (now (x .entry))) (now (firsts .entry)) (now (starts .entry)) (now (rows .entry))) (suc k) ⌝ }
     ensures { λ _. ⌜ ((x₀ : List Float) → now (x .entry) ≡ forward (laid (length (now (x .entry))) (now (firsts .entry)) (now (starts .entry)) (now (rows .entry))) (now (values .entry)) x₀ (getD (now (firsts .entry)) k 0) → now (x .exit) ≡ forward (laid (length (now (x .entry))) (now (firsts .entry)) (now (starts .entry)) (now (rows .entry))) (now (values .entry)) x₀ (getD (now (firsts .entry)) (suc k) 0)) ⌝ }
 {
@@ -136,7 +113,8 @@ fn forward_supernode(
     let w = firsts[k + 1] - f;
     let s = starts[k];
     let e = starts[k + 1];
-    forward_columns(&rows[s..e], values, off, f, w, x)
+    forward_columns(&rows[s..e], &values[off..], f, w, x);
+    off + column_start(e - s, w)
 }
 
 // Supernode k, falling. Returns where its values start.
@@ -152,7 +130,7 @@ fn backward_supernode(
     requires { ⌜ Walkable (laid (length (now x)) (now firsts) (now starts) (now rows)) ⌝ }
     requires { ⌜ k < length (now firsts) - 1 ⌝ }
     requires { ⌜ end ≡ offset (laid (length (now x)) (now firsts) (now starts) (now rows)) (suc k) ⌝ }
-    requires { ⌜ end ≤ length (now values) ⌝ }
+    requires { ⌜ (end ≤ length (now values)) × (length (now x) ≤ 32768) ⌝ }
     ensures { λ r. ⌜ r ≡ offset (laid (length (now (x .entry))) (now (firsts .entry)) (now (starts .entry)) (now (rows .entry))) k ⌝ }
     ensures { λ _. ⌜ backward (laid (length (now (x .entry))) (now (firsts .entry)) (now (starts .entry)) (now (rows .entry))) (now (values .entry)) (now (x .entry)) (getD (now (firsts .entry)) (suc k) 0) ≡ backward (laid (length (now (x .entry))) (now (firsts .entry)) (now (starts .entry)) (now (rows .entry))) (now (values .entry)) (now (x .exit)) (getD (now (firsts .entry)) k 0) ⌝ }
 {
@@ -160,13 +138,15 @@ fn backward_supernode(
     let w = firsts[k + 1] - f;
     let s = starts[k];
     let e = starts[k + 1];
-    backward_columns(&rows[s..e], values, end, f, w, x)
+    let off = end - column_start(e - s, w);
+    backward_columns(&rows[s..e], &values[off..], f, w, x);
+    off
 }
 
 // All columns, rising.
 fn forward(firsts: &[usize], starts: &[usize], rows: &[usize], values: &[f64], x: &mut [f64])
     requires { ⌜ Walkable (laid (length (now x)) (now firsts) (now starts) (now rows)) ⌝ }
-    requires { ⌜ offset (laid (length (now x)) (now firsts) (now starts) (now rows)) (length (now firsts) - 1) ≤ length (now values) ⌝ }
+    requires { ⌜ (offset (laid (length (now x)) (now firsts) (now starts) (now rows)) (length (now firsts) - 1) ≤ length (now values)) × (length (now x) ≤ 32768) ⌝ }
     ensures { λ _. ⌜ now (x .exit) ≡ forward (laid (length (now (x .entry))) (now (firsts .entry)) (now (starts .entry)) (now (rows .entry))) (now (values .entry)) (now (x .entry)) (length (now (x .entry))) ⌝ }
 {
     let mut off: usize = 0;
@@ -188,7 +168,7 @@ fn backward(
 )
     requires { ⌜ Walkable (laid (length (now x)) (now firsts) (now starts) (now rows)) ⌝ }
     requires { ⌜ entries ≡ offset (laid (length (now x)) (now firsts) (now starts) (now rows)) (length (now firsts) - 1) ⌝ }
-    requires { ⌜ entries ≤ length (now values) ⌝ }
+    requires { ⌜ (entries ≤ length (now values)) × (length (now x) ≤ 32768) ⌝ }
     ensures { λ _. ⌜ now (x .exit) ≡ backward (laid (length (now (x .entry))) (now (firsts .entry)) (now (starts .entry)) (now (rows .entry))) (now (values .entry)) (now (x .entry)) (length (now (x .entry))) ⌝ }
 {
     let mut end = entries;

@@ -14,7 +14,7 @@ use Rattle.laws.proofs.Stretches.{offset-suc, offset-mono}
 use Rattle.laws.proofs.Loops.{earlier-gap}
 use Rattle.laws.proofs.Order.{never}
 use Rattle.laws.proofs.Inplace.{spot-apart, spot-lt}
-use Rattle.panels.specs.Dense.{cell}
+use Rattle.panel.specs.View.{cell}
 use Rattle.step.specs.Update.{posOf, spotOf, Source}
 use Rattle.step.specs.Ready.{row, Rows, source, low, high, Listed, Placed, Took, Gathered, at}
 use Rattle.step.proofs.Takes as takes

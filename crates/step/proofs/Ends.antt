@@ -13,7 +13,8 @@ use Rattle.laws.proofs.Stretches.{offset-suc}
 use Rattle.laws.proofs.Inplace.{spot-lt}
 use Rattle.step.specs.declared.StepAnswer.the-variants.{Made, Broke}
 use Rattle.areas.specs.Touch.{Touched}
-use Rattle.panels.specs.Dense.{cell, inner, Dense}
+use Rattle.panel.specs.View.{cell}
+use Rattle.panels.specs.Dense.{inner, Dense}
 use Rattle.step.specs.Ready.{Rows}
 use Rattle.step.specs.Answer.{answerOf, leaves, Stepped, Assembled}
 use Rattle.areas.proofs.Part as part

@@ -16,7 +16,7 @@ use Rattle.laws.proofs.Entry.{place-lt, getD-place, has-of-place, trap-mono, tr
 use Rattle.laws.proofs.Inplace.{spot-lt}
 use Rattle.laws.proofs.Order.{never}
 use Rattle.areas.specs.Touch.{Touched}
-use Rattle.panels.specs.Dense.{cell}
+use Rattle.panel.specs.View.{cell}
 use Rattle.step.specs.Spread.{through, Spread}
 use Rattle.step.specs.Ready.{row, Rows, Placed, Fresh, Own, spotA, Scattered, FromA}
 use Rattle.areas.proofs.Touch as touch

@@ -8,7 +8,7 @@ use lib.ListN.{length, getD, drop}
 use lib.Ieee.{Float, nan, binary64, sub}
 use Rattle.laws.proofs.Entry.{trap-suc, trap-mono}
 use Rattle.areas.specs.Touch.{Touched}
-use Rattle.panels.specs.Dense.{cell}
+use Rattle.panel.specs.View.{cell}
 use Rattle.step.specs.Spread.{through, Spread}
 use Rattle.step.specs.Update.{posOf, spotOf, Target}
 use Rattle.areas.proofs.Touch as touch

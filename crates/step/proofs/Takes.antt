@@ -11,7 +11,7 @@ use lib.Ieee.{Float, nan, binary64, sub}
 use Rattle.laws.proofs.Entry.{trap-suc, trap-mono, dot-same}
 use Rattle.laws.proofs.Inplace.{spot-apart}
 use Rattle.areas.specs.Touch.{Touched}
-use Rattle.panels.specs.Dense.{cell}
+use Rattle.panel.specs.View.{cell}
 use Rattle.step.specs.Update.{posOf, spotOf, Target, Source, Updated}
 use Rattle.statement.specs.Shape.{trapezoid}
 use Rattle.statement.specs.Rules.{dot}

@@ -6,7 +6,7 @@ use Prim.Native.Nat.{ℕ, suc, _+_, _-_, _≤_, _<_}
 use lib.ListN.{length, getD}
 use lib.Ieee.{Float, nan}
 use Rattle.areas.specs.Touch.{Touched}
-use Rattle.panels.specs.Dense.{cell}
+use Rattle.panel.specs.View.{cell}
 use Rattle.step.specs.Update.{Updated}
 use Rattle.statement.specs.Shape.{Shape, first, width, height, rowsOf, trapezoid, offset}
 use Rattle.statement.specs.declared.Update.{Update}

@@ -4,7 +4,7 @@ use mathlib.Core.List.{List}
 use Prim.Native.Nat.{ℕ, _+_, _-_, _<_, _≤_}
 use lib.ListN.{length, getD, drop}
 use lib.Ieee.{Float, nan, binary64, sub}
-use Rattle.panels.specs.Dense.{cell}
+use Rattle.panel.specs.View.{cell}
 use Rattle.statement.specs.Rules.{dot}
 use Rattle.statement.specs.Shape.{trapezoid}
 

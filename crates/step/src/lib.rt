@@ -7,7 +7,7 @@ ghost use Rattle.statement.specs.Shape.{width};
 ghost use Rattle.statement.specs.Rules.{dot};
 ghost use Rattle.laws.specs.Lower.{lowerValue, Lower, Pattern};
 ghost use Rattle.areas.specs.Touch.{Touched};
-ghost use Rattle.panels.specs.Dense.{cell};
+ghost use Rattle.panel.specs.View.{cell};
 ghost use Rattle.step.specs.Answer.{Assembled, Ready, Stepped};
 ghost use Rattle.step.specs.Ready.{lent, Rows, Listed, Offsets, Own, Took, Gathered, Fresh, Scattered, FromA};
 ghost use Rattle.step.specs.Update.{spotOf, Target, Source, Updated};
@@ -96,7 +96,7 @@ fn update_column(
     let at = kr + q;
     let r = rows[at];
     let c = place[r];
-    let base = panels::column_start(m, c) - c;
+    let base = panel::column_start(m, c) - c;
     subtract_through(&mut values[off..], base, place, rows, at, work, km - q);
 }
 
@@ -238,7 +238,7 @@ fn from_a_column(
     let k = f + c;
     let t0 = astarts[k];
     let t1 = astarts[k + 1];
-    let base = panels::column_start(m, c) - c;
+    let base = panel::column_start(m, c) - c;
     store_through(own, base, place, arows, t0, avals, t1 - t0);
 }
 
@@ -264,7 +264,7 @@ fn from_a(
     requires { ⌜ Fresh (lent n (now first) (now starts) (now rows)) j m w f (now place) (length (now own)) ⌝ }
     ensures { λ r. ⌜ FromA (lent n (now (first .entry)) (now (starts .entry)) (now (rows .entry))) j (now (astarts .entry)) (now (arows .entry)) (now (avals .entry)) (width (lent n (now (first .entry)) (now (starts .entry)) (now (rows .entry))) j) (now (own .entry)) (now (own .exit)) ⌝ }
 {
-    panels::clear(own, panels::column_start(m, w));
+    panels::clear(own, panel::column_start(m, w));
     let mut c = 0;
     while c < w {
         from_a_column(
@@ -408,7 +408,7 @@ pub fn step(
     );
     let c = panels::dense(&mut values[off..], floats, a, m, w, f, astarts, arows, n);
     if c < w {
-        panels::clear(&mut values[off..], panels::column_start(m, w));
+        panels::clear(&mut values[off..], panel::column_start(m, w));
         return StepAnswer::Broke(Factored(f + c));
     }
     StepAnswer::Made

@@ -70,15 +70,12 @@ sub-m c =
     let loop′ = c .before .before .before .before .before .loop in
     omega (arith, whole _ (pre′ .0) (loop′ .j) (omega arith) .node .down)
 
-trapezoid-requires : tie.Need-trapezoid-requires Inv-loop μ-loop
-trapezoid-requires c κs =
+column-start-requires : tie.Need-column-start-requires Inv-loop μ-loop
+column-start-requires c κs =
     let pre′ = c .before .before .before .before .before .before .before .before .before .pre in
     let loop′ = c .before .before .before .before .before .loop in
-    let args′ = c .before .before .before .before .before .before .before .before .before .args in
     let p = whole _ (pre′ .0) (loop′ .j) (omega arith) in
-    let m = getD (args′ .starts .now) (loop′ .j + 1) 0 - getD (args′ .starts .now) (loop′ .j) 0 in
-    let w = getD (args′ .firsts .now) (loop′ .j + 1) 0 - getD (args′ .firsts .now) (loop′ .j) 0 in
-    (p .wide, omega (arith, trapezoid-bound m w (omega (arith, p .few, pre′ .1 .0)), p .node .cols, pre′ .1 .0))
+    (p .wide, omega (arith, p .few, pre′ .1 .0))
 
 add-sum : tie.Need-add-sum Inv-loop μ-loop
 add-sum c =
@@ -114,4 +111,4 @@ returns c =
     rw e at (loop′ .inv .1)
 
 pub offset-spec : {M : Type 1} → statement M
-offset-spec = tie.close (tie.spec Inv-loop μ-loop loop-holds add-w mul-w shared-slice-read-w mul-w-2 shared-slice-read-w-2 sub-w add-m mul-m shared-slice-read-m mul-m-2 shared-slice-read-m-2 sub-m trapezoid-requires add-sum add-j loop-less loop-again returns)
+offset-spec = tie.close (tie.spec Inv-loop μ-loop loop-holds add-w mul-w shared-slice-read-w mul-w-2 shared-slice-read-w-2 sub-w add-m mul-m shared-slice-read-m mul-m-2 shared-slice-read-m-2 sub-m column-start-requires add-sum add-j loop-less loop-again returns)

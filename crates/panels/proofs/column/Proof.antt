@@ -1,8 +1,8 @@
 -- `panels::column` meets its contract. The reduced column, its test, the root and the quotients. Assumes nothing.
 use mathlib.Core.Path.{_∙_}
-use borrow.Author.Needs.{needs}
 use native.Mathlib.Omega.{arith}
 use lib.ListN.{length-set}
+use borrow.Author.Needs.{needs}
 use Rattle.panels.proofs.Columns as cols
 use Rattle.panels.proofs.column.Statement.{statement}
 use Rattle.panels.proofs.column.Tie as tie
@@ -10,17 +10,17 @@ use Rattle.panels.proofs.column.Tie as tie
 reduce-requires : tie.Need-reduce-requires
 reduce-requires c κs = search needs
 
-column-start-requires : tie.Need-column-start-requires
-column-start-requires c κs = search needs
-
-mul-d : tie.Need-mul-d
-mul-d c = search needs
-
-slice-read-d : tie.Need-slice-read-d
-slice-read-d c = search needs
+panel-entry-requires : tie.Need-panel-entry-requires
+panel-entry-requires c κs =
+    let pre′ = c .before .before .before .before .before .before .before .before .before .before .pre in
+    let reduce′ = c .before .before .before .before .before .reduce in
+    (record { inside = pre′ .0; few = pre′ .1; room = omega (arith, pre′ .2, reduce′ .ensures .size) }, omega arith, pre′ .0)
 
 good-pivot-requires : tie.Need-good-pivot-requires
 good-pivot-requires c κs = search needs
+
+column-start-requires : tie.Need-column-start-requires
+column-start-requires c κs = search needs
 
 root-requires : tie.Need-root-requires
 root-requires c κs = search needs
@@ -41,16 +41,32 @@ sub-divide-2 : tie.Need-sub-divide-2
 sub-divide-2 c = search needs
 
 divide-requires : tie.Need-divide-requires
-divide-requires c κs = simp length-set (omega (arith, c .before .before .before .before .before .before .before .before .before .before .reduce .ensures .size, c .before .before .before .before .before .column-start .ensures))
+divide-requires c κs =
+    let reduce′ = c .before .before .before .before .before .before .before .before .before .before .before .reduce in
+    let column-start′ = c .before .before .column-start in
+    simp length-set (omega (arith, reduce′ .ensures .size, column-start′ .ensures))
 
 same-length : tie.Need-same-length
-same-length c = c .before .before .divide .ensures .size ∙ simp length-set (c .before .before .before .before .before .before .before .before .before .before .before .before .before .reduce .ensures .size)
+same-length c =
+    let divide′ = c .before .before .divide in
+    let reduce′ = c .before .before .before .before .before .before .before .before .before .before .before .before .before .before .reduce in
+    divide′ .ensures .size ∙ simp length-set (reduce′ .ensures .size)
 
 same-length-2 : tie.Need-same-length-2
 same-length-2 c = search needs
 
 returns : tie.Need-returns
-returns c = cols.column-yes _ (c .before .before .before .before .before .before .before .before .before .before .before .before .before .before .before .before .before .before .args .m) (c .before .before .before .before .before .before .before .before .before .before .before .before .before .before .before .before .before .before .args .c) (c .before .before .before .before .before .before .before .before .before .before .before .before .before .before .before .before .before .before .args .a) _ _ _ (c .before .before .before .before .before .before .before .before .column-start .ensures) (omega arith) (omega arith) (c .before .before .before .before .before .before .before .before .before .before .before .before .before .reduce .ensures) (c .before .before .before .before .before .before .good-pivot .ensures) _ _ (c .before .before .before .before .before .if1 .taken) (c .before .before .before .before .root .ensures) (c .before .before .divide .ensures)
+returns c =
+    let args′ = c .before .before .before .before .before .before .before .before .before .before .before .before .before .before .before .before .before .before .before .args in
+    let pre′ = c .before .before .before .before .before .before .before .before .before .before .before .before .before .before .before .before .before .before .before .pre in
+    let reduce′ = c .before .before .before .before .before .before .before .before .before .before .before .before .before .before .reduce in
+    let panel-entry′ = c .before .before .before .before .before .before .before .before .panel-entry in
+    let good-pivot′ = c .before .before .before .before .before .before .before .good-pivot in
+    let column-start′ = c .before .before .before .before .before .column-start in
+    let if1′ = c .before .before .before .before .before .before .if1 in
+    let root′ = c .before .before .before .before .root in
+    let divide′ = c .before .before .divide in
+    cols.column-yes _ (args′ .m) (args′ .c) (args′ .a) _ _ _ (pre′ .0) (pre′ .2) (reduce′ .ensures) (panel-entry′ .ensures) (good-pivot′ .ensures) _ _ _ (column-start′ .ensures) (if1′ .taken) (root′ .ensures) (divide′ .ensures)
 
 same-length-3 : tie.Need-same-length-3
 same-length-3 c = search needs
@@ -59,17 +75,23 @@ same-length-4 : tie.Need-same-length-4
 same-length-4 c = search needs
 
 returns-2 : tie.Need-returns-2
-returns-2 c = cols.column-no _ (c .before .before .before .before .before .before .before .before .before .before .before .before .before .args .m) (c .before .before .before .before .before .before .before .before .before .before .before .before .before .args .c) (c .before .before .before .before .before .before .before .before .before .before .before .before .before .args .a) _ _ _ (c .before .before .before .column-start .ensures) (omega arith) (omega arith) (c .before .before .before .before .before .before .before .before .reduce .ensures) (c .before .good-pivot .ensures) (c .if1 .left)
+returns-2 c =
+    let args′ = c .before .before .before .before .before .before .before .before .before .before .before .before .before .args in
+    let pre′ = c .before .before .before .before .before .before .before .before .before .before .before .before .before .pre in
+    let reduce′ = c .before .before .before .before .before .before .before .before .reduce in
+    let panel-entry′ = c .before .before .panel-entry in
+    let good-pivot′ = c .before .good-pivot in
+    let if1′ = c .if1 in
+    cols.column-no _ (args′ .m) (args′ .c) (args′ .a) _ _ _ (pre′ .0) (pre′ .2) (reduce′ .ensures) (panel-entry′ .ensures) (good-pivot′ .ensures) (if1′ .left)
 
 pub column-spec : {M : Type 1} → statement M
 column-spec =
     tie.close
     (tie.spec
     reduce-requires
-    column-start-requires
-    mul-d
-    slice-read-d
+    panel-entry-requires
     good-pivot-requires
+    column-start-requires
     root-requires
     mul-own
     slice-write-own

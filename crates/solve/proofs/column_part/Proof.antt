@@ -1,7 +1,8 @@
--- `solve::column_part` meets its contract: the part that starts at the column's diagonal. Assumes nothing.
+-- `solve::column_part` meets its contract: the column of its supernode's panel. Assumes nothing.
+use mathlib.Core.Path.{_∙_}
 use native.Mathlib.Omega.{arith}
 use Rattle.laws.proofs.Walked.{whole}
-use Rattle.solve.proofs.Viewed.{at-in, part-in, part-is}
+use Rattle.solve.proofs.Viewed.{part-in, part-within, part-is}
 use Rattle.solve.proofs.column_part.Statement.{statement}
 use Rattle.solve.proofs.column_part.Tie as tie
 
@@ -66,70 +67,68 @@ offset-requires c κs =
     let owner′ = c .before .before .before .owner in
     (pre′ .0, (pre′ .1 .1 .0, omega (arith, owner′ .ensures .inside)))
 
-trapezoid-requires : tie.Need-trapezoid-requires
-trapezoid-requires c κs =
+mul-panel-column : tie.Need-mul-panel-column
+mul-panel-column c =
     let pre′ = c .before .before .before .before .before .before .before .before .before .pre in
     let args′ = c .before .before .before .before .before .before .before .before .before .args in
     let owner′ = c .before .before .before .before .owner in
-    (omega (arith, at-in _ (pre′ .0) (args′ .q) _ (owner′ .ensures)), omega (arith, part-in _ (pre′ .0) (args′ .q) _ (owner′ .ensures), pre′ .1 .0))
+    let offset′ = c .offset in
+    omega (arith, part-in _ (pre′ .0) (args′ .q) _ (owner′ .ensures), pre′ .1 .0, offset′ .ensures)
 
-add-o : tie.Need-add-o
-add-o c =
+sub-panel-column : tie.Need-sub-panel-column
+sub-panel-column c =
+    let pre′ = c .before .before .before .before .before .before .before .before .before .pre in
+    let args′ = c .before .before .before .before .before .before .before .before .before .args in
+    let owner′ = c .before .before .before .before .owner in
+    let offset′ = c .offset in
+    omega (arith, part-in _ (pre′ .0) (args′ .q) _ (owner′ .ensures), pre′ .1 .0, offset′ .ensures)
+
+part-panel-column-start : tie.Need-part-panel-column-start
+part-panel-column-start c =
+    let pre′ = c .before .before .before .before .before .before .before .before .before .pre in
+    let args′ = c .before .before .before .before .before .before .before .before .before .args in
+    let owner′ = c .before .before .before .before .owner in
+    let offset′ = c .offset in
+    omega (arith, part-in _ (pre′ .0) (args′ .q) _ (owner′ .ensures), pre′ .1 .0, offset′ .ensures)
+
+part-panel-column-end : tie.Need-part-panel-column-end
+part-panel-column-end c = omega arith
+
+panel-column-requires : tie.Need-panel-column-requires
+panel-column-requires c κs =
     let pre′ = c .before .before .before .before .before .before .before .before .before .before .pre in
     let args′ = c .before .before .before .before .before .before .before .before .before .before .args in
     let owner′ = c .before .before .before .before .before .owner in
     let offset′ = c .before .offset in
-    let trapezoid′ = c .trapezoid in
-    omega (arith, part-in _ (pre′ .0) (args′ .q) _ (owner′ .ensures), pre′ .1 .0, offset′ .ensures, trapezoid′ .ensures)
-
-sub-e : tie.Need-sub-e
-sub-e c =
-    let pre′ = c .before .before .before .before .before .before .before .before .before .before .pre in
-    let args′ = c .before .before .before .before .before .before .before .before .before .before .args in
-    let owner′ = c .before .before .before .before .before .owner in
-    omega (arith, at-in _ (pre′ .0) (args′ .q) _ (owner′ .ensures))
-
-add-e : tie.Need-add-e
-add-e c =
-    let pre′ = c .before .before .before .before .before .before .before .before .before .before .pre in
-    let args′ = c .before .before .before .before .before .before .before .before .before .before .args in
-    let owner′ = c .before .before .before .before .before .owner in
-    let offset′ = c .before .offset in
-    let trapezoid′ = c .trapezoid in
-    omega (arith, part-in _ (pre′ .0) (args′ .q) _ (owner′ .ensures), pre′ .1 .0, offset′ .ensures, trapezoid′ .ensures)
-
-mul-result : tie.Need-mul-result
-mul-result c =
-    let pre′ = c .before .before .before .before .before .before .before .before .before .before .pre in
-    let args′ = c .before .before .before .before .before .before .before .before .before .before .args in
-    let owner′ = c .before .before .before .before .before .owner in
-    let offset′ = c .before .offset in
-    let trapezoid′ = c .trapezoid in
-    omega (arith, part-in _ (pre′ .0) (args′ .q) _ (owner′ .ensures), pre′ .1 .0, offset′ .ensures, trapezoid′ .ensures)
-
-sub-result : tie.Need-sub-result
-sub-result c = omega arith
-
-part-result-start : tie.Need-part-result-start
-part-result-start c = omega arith
-
-part-result-end : tie.Need-part-result-end
-part-result-end c =
-    let pre′ = c .before .before .before .before .before .before .before .before .before .before .pre in
-    let args′ = c .before .before .before .before .before .before .before .before .before .before .args in
-    let owner′ = c .before .before .before .before .before .owner in
-    let offset′ = c .before .offset in
-    let trapezoid′ = c .trapezoid in
-    omega (arith, part-in _ (pre′ .0) (args′ .q) _ (owner′ .ensures), pre′ .1 .0, offset′ .ensures, trapezoid′ .ensures)
+    part-within _ (pre′ .0) (args′ .q) _ (owner′ .ensures) (args′ .values .now) _ (offset′ .ensures) (pre′ .1 .0) (pre′ .1 .1 .0)
 
 returns : tie.Need-returns
 returns c =
+    let panel-column′ = c .panel-column in
     let pre′ = c .before .before .before .before .before .before .before .before .before .before .before .pre in
     let args′ = c .before .before .before .before .before .before .before .before .before .before .before .args in
     let owner′ = c .before .before .before .before .before .before .owner in
     let offset′ = c .before .before .offset in
-    let trapezoid′ = c .before .trapezoid in
-    part-is _ (pre′ .0) (args′ .q) _ (owner′ .ensures) (args′ .values .now) _ _ (offset′ .ensures) (trapezoid′ .ensures)
+    panel-column′ .ensures ∙ part-is _ (pre′ .0) (args′ .q) _ (owner′ .ensures) (args′ .values .now) _ (offset′ .ensures)
 
 pub column-part-spec : {M : Type 1} → statement M
-column-part-spec = tie.close (tie.spec owner-requires mul-c shared-slice-read-c sub-c add-m mul-m shared-slice-read-m mul-m-2 shared-slice-read-m-2 sub-m offset-requires trapezoid-requires add-o sub-e add-e mul-result sub-result part-result-start part-result-end returns)
+column-part-spec =
+    tie.close
+    (tie.spec
+    owner-requires
+    mul-c
+    shared-slice-read-c
+    sub-c
+    add-m
+    mul-m
+    shared-slice-read-m
+    mul-m-2
+    shared-slice-read-m-2
+    sub-m
+    offset-requires
+    mul-panel-column
+    sub-panel-column
+    part-panel-column-start
+    part-panel-column-end
+    panel-column-requires
+    returns)

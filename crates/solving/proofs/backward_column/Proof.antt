@@ -5,7 +5,8 @@ use Prim.Native.Nat.{_+_, _-_}
 use native.Mathlib.Omega.{arith}
 use borrow.Author.Needs.{needs}
 use lib.Seq.{getD-drop}
-use Rattle.solving.proofs.Rules.{rest-is, rest-long, backward-is}
+use Rattle.areas.proofs.Tail.{tail-lent}
+use Rattle.solving.proofs.Rules.{rest-long, backward-is}
 use Rattle.solving.proofs.backward_column.Statement.{statement}
 use Rattle.solving.proofs.backward_column.Tie as tie
 
@@ -40,7 +41,7 @@ reduce-requires : tie.Need-reduce-requires
 reduce-requires c κs =
     let args′ = c .before .before .before .before .before .before .before .before .args in
     let pre′ = c .before .before .before .before .before .before .before .before .pre in
-    (rest-long 1 (args′ .rows .now) ∙ ap (λ k. k - 1) (pre′ .long) ∙ sym (rest-long 1 (args′ .values .now)), λ i l. rw (rest-is 1 (args′ .rows .now), getD-drop 1 (args′ .rows .now) i 0) (pre′ .low (1 + i) (omega (arith, rest-long 1 (args′ .rows .now)))))
+    (rest-long 1 (args′ .rows .now) ∙ ap (λ k. k - 1) (pre′ .long) ∙ sym (rest-long 1 (args′ .values .now)), λ i l. rw (tail-lent 1 (args′ .rows .now), getD-drop 1 (args′ .rows .now) i 0) (pre′ .low (1 + i) (omega (arith, rest-long 1 (args′ .rows .now)))))
 
 mul-x : tie.Need-mul-x
 mul-x c = omega arith

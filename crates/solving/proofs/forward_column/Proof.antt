@@ -4,7 +4,8 @@ use Prim.Native.Nat.{_+_, _-_}
 use native.Mathlib.Omega.{arith}
 use lib.ListN.{length-set}
 use lib.Seq.{getD-drop}
-use Rattle.solving.proofs.Rules.{rest-is, rest-long, forward-is}
+use Rattle.areas.proofs.Tail.{tail-lent}
+use Rattle.solving.proofs.Rules.{rest-long, forward-is}
 use Rattle.solving.proofs.forward_column.Statement.{statement}
 use Rattle.solving.proofs.forward_column.Tie as tie
 
@@ -45,7 +46,7 @@ subtract-requires : tie.Need-subtract-requires
 subtract-requires c κs =
     let args′ = c .before .before .before .before .before .before .before .before .args in
     let pre′ = c .before .before .before .before .before .before .before .before .pre in
-    (rest-long 1 (args′ .rows .now) ∙ ap (λ k. k - 1) (pre′ .long) ∙ sym (rest-long 1 (args′ .values .now)), λ i l. rw (length-set, rest-is 1 (args′ .rows .now), getD-drop 1 (args′ .rows .now) i 0) (pre′ .low (1 + i) (omega (arith, rest-long 1 (args′ .rows .now)))))
+    (rest-long 1 (args′ .rows .now) ∙ ap (λ k. k - 1) (pre′ .long) ∙ sym (rest-long 1 (args′ .values .now)), λ i l. rw (length-set, tail-lent 1 (args′ .rows .now), getD-drop 1 (args′ .rows .now) i 0) (pre′ .low (1 + i) (omega (arith, rest-long 1 (args′ .rows .now)))))
 
 same-length : tie.Need-same-length
 same-length c =

@@ -1,38 +1,25 @@
--- `solving::forward_columns` meets its contract: the columns before c are done, and o is where c's values start. Assumes nothing.
-use mathlib.Core.Path.{_≡_, refl, ap, _∙_}
+-- `solving::forward_columns` meets its contract: the columns before c are done. Assumes nothing.
 use mathlib.Core.List.{List}
+use mathlib.Core.Path.{_≡_, refl, ap, _∙_}
 use Prim.Native.Nat.{ℕ, _+_, _-_, _≤_}
 use native.Mathlib.Omega.{arith}
-use lib.ListN.{length}
 use lib.Ieee.{Float}
-use Rattle.statement.specs.Shape.{Shape, trapezoid}
+use lib.ListN.{length}
 use Rattle.statement.specs.Solve.{forward}
+use Rattle.statement.specs.Shape.{Shape}
 use Rattle.solving.specs.Walk.{Supernode}
-use Rattle.solving.proofs.Walk.{trap-next, ends-in, one-column, column-rows, column-values, forward-more}
+use Rattle.solving.proofs.Walk.{column-within, one-column, column-rows, column-values, forward-more}
 use Rattle.solving.proofs.forward_columns.Statement.{statement}
 use Rattle.solving.proofs.forward_columns.Tie as tie
 
 abbrev Inv-loop : tie.InvT-loop
-Inv-loop rows values off f w x₀ m o₀ c₀ x o c = (c ≤ w) × (o ≡ off + trapezoid (length rows) c) × (length x ≡ length x₀) × ((S : Shape) (K : ℕ) (z : List Float) → Supernode S K rows off f w → x₀ ≡ forward S values z f → x ≡ forward S values z (f + c))
+Inv-loop rows values f w x₀ m c₀ x c = (c ≤ w) × (length x ≡ length x₀) × ((S : Shape) (K : ℕ) (v z : List Float) → Supernode S K v rows values f w → x₀ ≡ forward S v z f → x ≡ forward S v z (f + c))
 
 abbrev μ-loop : tie.MeasureT-loop
-μ-loop rows values off f w x₀ m o₀ c₀ x o c = w - c
+μ-loop rows values f w x₀ m c₀ x c = w - c
 
 loop-holds : tie.Need-loop-holds Inv-loop μ-loop
-unfolding trapezoid
-loop-holds c = (omega arith, omega arith, refl, λ S K z s h. h ∙ ap (forward S _ z) (omega arith))
-
-sub-e : tie.Need-sub-e Inv-loop μ-loop
-sub-e c =
-    let pre′ = c .before .before .before .before .before .pre in
-    omega (arith, pre′ .wide)
-
-add-e : tie.Need-add-e Inv-loop μ-loop
-add-e c =
-    let pre′ = c .before .before .before .before .before .pre in
-    let loop′ = c .before .loop in
-    let args′ = c .before .before .before .before .before .args in
-    omega (arith, ends-in (pre′) (loop′ .c) (loop′ .o) (loop′ .o + (length (args′ .rows .now) - loop′ .c)) (omega arith) (loop′ .inv .1) refl)
+loop-holds c = (omega arith, refl, λ S K v z s h. h ∙ ap (forward S v z) (omega arith))
 
 mul-forward-column : tie.Need-mul-forward-column Inv-loop μ-loop
 mul-forward-column c =
@@ -54,33 +41,11 @@ part-forward-column-end c =
     let pre′ = c .before .before .before .before .before .pre in
     omega (arith, pre′ .wide)
 
-mul-forward-column-2 : tie.Need-mul-forward-column-2 Inv-loop μ-loop
-mul-forward-column-2 c =
+panel-column-requires : tie.Need-panel-column-requires Inv-loop μ-loop
+panel-column-requires c κs =
     let pre′ = c .before .before .before .before .before .before .pre in
     let loop′ = c .before .before .loop in
-    let args′ = c .before .before .before .before .before .before .args in
-    omega (arith, ends-in (pre′) (loop′ .c) (loop′ .o) (loop′ .o + (length (args′ .rows .now) - loop′ .c)) (omega arith) (loop′ .inv .1) refl)
-
-sub-forward-column-2 : tie.Need-sub-forward-column-2 Inv-loop μ-loop
-sub-forward-column-2 c =
-    let pre′ = c .before .before .before .before .before .before .pre in
-    let loop′ = c .before .before .loop in
-    let args′ = c .before .before .before .before .before .before .args in
-    omega (arith, ends-in (pre′) (loop′ .c) (loop′ .o) (loop′ .o + (length (args′ .rows .now) - loop′ .c)) (omega arith) (loop′ .inv .1) refl)
-
-part-forward-column-start-2 : tie.Need-part-forward-column-start-2 Inv-loop μ-loop
-part-forward-column-start-2 c =
-    let pre′ = c .before .before .before .before .before .before .pre in
-    let loop′ = c .before .before .loop in
-    let args′ = c .before .before .before .before .before .before .args in
-    omega (arith, ends-in (pre′) (loop′ .c) (loop′ .o) (loop′ .o + (length (args′ .rows .now) - loop′ .c)) (omega arith) (loop′ .inv .1) refl)
-
-part-forward-column-end-2 : tie.Need-part-forward-column-end-2 Inv-loop μ-loop
-part-forward-column-end-2 c =
-    let pre′ = c .before .before .before .before .before .before .pre in
-    let loop′ = c .before .before .loop in
-    let args′ = c .before .before .before .before .before .before .args in
-    omega (arith, ends-in (pre′) (loop′ .c) (loop′ .o) (loop′ .o + (length (args′ .rows .now) - loop′ .c)) (omega arith) (loop′ .inv .1) refl)
+    column-within (pre′) (loop′ .c) (omega arith)
 
 add-forward-column : tie.Need-add-forward-column Inv-loop μ-loop
 add-forward-column c =
@@ -91,8 +56,8 @@ forward-column-requires : tie.Need-forward-column-requires Inv-loop μ-loop
 forward-column-requires c κs =
     let loop′ = c .before .before .before .before .loop in
     let pre′ = c .before .before .before .before .before .before .before .before .pre in
-    let args′ = c .before .before .before .before .before .before .before .before .args in
-    rw (loop′ .inv .2) (one-column (pre′) (loop′ .c) (loop′ .o) (loop′ .o + (length (args′ .rows .now) - loop′ .c)) (omega arith) (loop′ .inv .1) refl)
+    let panel-column′ = c .before .panel-column in
+    rw (loop′ .inv .1) (one-column (pre′) (loop′ .c) (omega arith) _ (panel-column′ .ensures))
 
 add-c : tie.Need-add-c Inv-loop μ-loop
 add-c c = omega arith
@@ -102,24 +67,41 @@ loop-less c = omega arith
 
 loop-again : tie.Need-loop-again Inv-loop μ-loop
 loop-again c =
-    let args′ = c .before .before .before .before .before .before .before .before .before .before .before .args in
-    let loop′ = c .before .before .before .before .before .before .before .loop in
     let forward-column′ = c .before .before .forward-column in
+    let loop′ = c .before .before .before .before .before .before .before .loop in
+    let args′ = c .before .before .before .before .before .before .before .before .before .before .before .args in
     let pre′ = c .before .before .before .before .before .before .before .before .before .before .before .pre in
-    let t = trap-next (length (args′ .rows .now)) (loop′ .c) in
-    (omega arith, omega arith, forward-column′ .kept .1 .1 .1 .0 ∙ loop′ .inv .2, λ S K z s h. forward-more S (args′ .values .now) (args′ .f) z (loop′ .x) _ (loop′ .c) (loop′ .inv .3 S K z s h) (forward-column′ .ensures S (args′ .values .now) (column-rows (pre′) (loop′ .c) (loop′ .o) (loop′ .o + (length (args′ .rows .now) - loop′ .c)) (omega arith) (loop′ .inv .1) refl S K s) (column-values (pre′) (loop′ .c) (loop′ .o) (loop′ .o + (length (args′ .rows .now) - loop′ .c)) (omega arith) (loop′ .inv .1) refl S K s)))
+    let panel-column′ = c .before .before .before .before .panel-column in
+    (omega arith, forward-column′ .kept .1 .1 .1 .0 ∙ loop′ .inv .1, λ S K v z s h. forward-more S v (args′ .f) z (loop′ .x) _ (loop′ .c) (loop′ .inv .2 S K v z s h) (forward-column′ .ensures S v (column-rows (pre′) (loop′ .c) (omega arith) _ (panel-column′ .ensures) S K v s) (column-values (pre′) (loop′ .c) (omega arith) _ (panel-column′ .ensures) S K v s)))
 
 same-length : tie.Need-same-length Inv-loop μ-loop
 same-length c =
     let loop′ = c .before .loop in
-    loop′ .inv .2
+    loop′ .inv .1
 
 returns : tie.Need-returns Inv-loop μ-loop
 returns c =
     let loop′ = c .before .loop in
     let args′ = c .before .before .before .before .before .args in
     let e : loop′ .c ≡ args′ .w = omega arith in
-    (rw (← e) (loop′ .inv .1), λ S K z s h. rw (← e) (loop′ .inv .3 S K z s h))
+    λ S K v z s h. rw (← e) (loop′ .inv .2 S K v z s h)
 
 pub forward-columns-spec : {M : Type 1} → statement M
-forward-columns-spec = tie.close (tie.spec Inv-loop μ-loop loop-holds sub-e add-e mul-forward-column sub-forward-column part-forward-column-start part-forward-column-end mul-forward-column-2 sub-forward-column-2 part-forward-column-start-2 part-forward-column-end-2 add-forward-column forward-column-requires add-c loop-less loop-again same-length returns)
+forward-columns-spec =
+    tie.close
+    (tie.spec
+    Inv-loop
+    μ-loop
+    loop-holds
+    mul-forward-column
+    sub-forward-column
+    part-forward-column-start
+    part-forward-column-end
+    panel-column-requires
+    add-forward-column
+    forward-column-requires
+    add-c
+    loop-less
+    loop-again
+    same-length
+    returns)

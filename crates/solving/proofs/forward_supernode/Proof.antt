@@ -1,6 +1,5 @@
 -- `solving::forward_supernode` meets its contract: its columns in turn. Assumes nothing.
 use native.Mathlib.Omega.{arith}
-use borrow.Author.Needs.{needs}
 use Rattle.laws.proofs.Walked.{whole}
 use Rattle.solving.proofs.Walk.{next-at, block-of, forward-done}
 use Rattle.solving.proofs.forward_supernode.Statement.{statement}
@@ -74,21 +73,91 @@ part-forward-columns-end c =
     let args′ = c .before .before .before .before .before .before .before .before .before .args in
     omega (arith, whole _ (pre′ .0) (args′ .k) (pre′ .1 .0) .node .inside)
 
+mul-forward-columns-2 : tie.Need-mul-forward-columns-2
+mul-forward-columns-2 c =
+    let pre′ = c .before .before .before .before .before .before .before .before .before .before .pre in
+    let args′ = c .before .before .before .before .before .before .before .before .before .before .args in
+    omega (arith, pre′ .1 .1 .0, pre′ .1 .1 .1 .0, next-at _ (pre′ .0) (args′ .k) (pre′ .1 .0))
+
+sub-forward-columns-2 : tie.Need-sub-forward-columns-2
+sub-forward-columns-2 c =
+    let pre′ = c .before .before .before .before .before .before .before .before .before .before .pre in
+    let args′ = c .before .before .before .before .before .before .before .before .before .before .args in
+    omega (arith, pre′ .1 .1 .0, pre′ .1 .1 .1 .0, next-at _ (pre′ .0) (args′ .k) (pre′ .1 .0))
+
+part-forward-columns-start-2 : tie.Need-part-forward-columns-start-2
+part-forward-columns-start-2 c =
+    let pre′ = c .before .before .before .before .before .before .before .before .before .before .pre in
+    let args′ = c .before .before .before .before .before .before .before .before .before .before .args in
+    omega (arith, pre′ .1 .1 .0, pre′ .1 .1 .1 .0, next-at _ (pre′ .0) (args′ .k) (pre′ .1 .0))
+
+part-forward-columns-end-2 : tie.Need-part-forward-columns-end-2
+part-forward-columns-end-2 c = omega arith
+
 forward-columns-requires : tie.Need-forward-columns-requires
 forward-columns-requires c κs =
-    let pre′ = c .before .before .before .before .before .before .before .before .before .before .before .pre in
-    let args′ = c .before .before .before .before .before .before .before .before .before .before .before .args in
-    block-of _ (pre′ .0) (args′ .k) (pre′ .1 .0) _ (pre′ .1 .1 .1) _ (pre′ .1 .1 .0)
+    let pre′ = c .before .before .before .before .before .before .before .before .before .before .before .before .pre in
+    let args′ = c .before .before .before .before .before .before .before .before .before .before .before .before .args in
+    block-of _ (pre′ .0) (args′ .k) (pre′ .1 .0) (args′ .values .now) (args′ .off) (pre′ .1 .1 .0) (pre′ .1 .1 .1 .0) (pre′ .1 .1 .1 .1)
+
+sub-column-start : tie.Need-sub-column-start
+sub-column-start c =
+    let pre′ = c .before .before .before .before .before .before .before .before .before .before .before .before .before .before .before .pre in
+    let args′ = c .before .before .before .before .before .before .before .before .before .before .before .before .before .before .before .args in
+    omega (arith, whole _ (pre′ .0) (args′ .k) (pre′ .1 .0) .node .down)
+
+column-start-requires : tie.Need-column-start-requires
+column-start-requires c κs =
+    let pre′ = c .before .before .before .before .before .before .before .before .before .before .before .before .before .before .before .pre in
+    let args′ = c .before .before .before .before .before .before .before .before .before .before .before .before .before .before .before .args in
+    (whole _ (pre′ .0) (args′ .k) (pre′ .1 .0) .wide, omega (arith, whole _ (pre′ .0) (args′ .k) (pre′ .1 .0) .few, pre′ .1 .1 .1 .1))
+
+add-result : tie.Need-add-result
+add-result c =
+    let pre′ = c .before .before .before .before .before .before .before .before .before .before .before .before .before .before .before .before .pre in
+    let column-start′ = c .column-start in
+    let args′ = c .before .before .before .before .before .before .before .before .before .before .before .before .before .before .before .before .args in
+    omega (arith, pre′ .1 .1 .0, pre′ .1 .1 .1 .0, column-start′ .ensures, next-at _ (pre′ .0) (args′ .k) (pre′ .1 .0))
 
 same-length : tie.Need-same-length
-same-length c = search needs
+same-length c =
+    let forward-columns′ = c .before .before .before .forward-columns in
+    forward-columns′ .kept .1 .1 .1 .1 .0
 
 returns : tie.Need-returns
 returns c =
-    let forward-columns′ = c .before .before .forward-columns in
-    let pre′ = c .before .before .before .before .before .before .before .before .before .before .before .before .before .before .pre in
-    let args′ = c .before .before .before .before .before .before .before .before .before .before .before .before .before .before .args in
-    (omega (arith, forward-columns′ .ensures .0, pre′ .1 .1 .0, next-at _ (pre′ .0) (args′ .k) (pre′ .1 .0)), forward-done _ (pre′ .0) (args′ .k) (pre′ .1 .0) (args′ .values .now) _ _ _ (pre′ .1 .1 .0) (forward-columns′ .ensures .1))
+    let pre′ = c .before .before .before .before .before .before .before .before .before .before .before .before .before .before .before .before .pre in
+    let column-start′ = c .column-start in
+    let args′ = c .before .before .before .before .before .before .before .before .before .before .before .before .before .before .before .before .args in
+    let forward-columns′ = c .before .before .before .forward-columns in
+    (omega (arith, pre′ .1 .1 .0, column-start′ .ensures, next-at _ (pre′ .0) (args′ .k) (pre′ .1 .0)), forward-done _ (pre′ .0) (args′ .k) (pre′ .1 .0) (args′ .values .now) (args′ .off) (pre′ .1 .1 .0) _ _ (forward-columns′ .ensures))
 
 pub forward-supernode-spec : {M : Type 1} → statement M
-forward-supernode-spec = tie.close (tie.spec mul-f shared-slice-read-f add-w mul-w shared-slice-read-w sub-w mul-s shared-slice-read-s add-e mul-e shared-slice-read-e mul-forward-columns sub-forward-columns part-forward-columns-start part-forward-columns-end forward-columns-requires same-length returns)
+forward-supernode-spec =
+    tie.close
+    (tie.spec
+    mul-f
+    shared-slice-read-f
+    add-w
+    mul-w
+    shared-slice-read-w
+    sub-w
+    mul-s
+    shared-slice-read-s
+    add-e
+    mul-e
+    shared-slice-read-e
+    mul-forward-columns
+    sub-forward-columns
+    part-forward-columns-start
+    part-forward-columns-end
+    mul-forward-columns-2
+    sub-forward-columns-2
+    part-forward-columns-start-2
+    part-forward-columns-end-2
+    forward-columns-requires
+    sub-column-start
+    column-start-requires
+    add-result
+    same-length
+    returns)

@@ -1,17 +1,17 @@
--- `panels::column_start` meets its contract. The trapezoid's closed form, and no product wraps. Assumes nothing.
-use mathlib.Core.Path.{sym, ap, _∙_}
-use borrow.Author.Needs.{needs}
+-- `panel::column_start` meets its contract. The trapezoid's closed form, and no product wraps. Assumes nothing.
+use mathlib.Core.Path.{sym, ap}
 use Prim.Native.Nat.{_-_}
 use native.Mathlib.Omega.{arith}
-use Rattle.panels.proofs.Rising as rise
-use Rattle.panels.proofs.Starts.{prod-fits, half-le}
-use Rattle.laws.proofs.Loops.{trapezoid-is}
-use Rattle.panels.proofs.column_start.Statement.{statement}
-use Rattle.panels.proofs.column_start.Tie as tie
+use borrow.Author.Needs.{needs}
 use Rattle.statement.specs.Shape.{trapezoid}
+use Rattle.laws.proofs.Loops.{trapezoid-is}
+use Rattle.panel.proofs.Starts.{prod-fits, half-le}
+use Rattle.panel.proofs.column_start.Statement.{statement}
+use Rattle.panel.proofs.column_start.Tie as tie
 
 returns : tie.Need-returns
-returns c = sym (ap (trapezoid (c .before .args .m)) (c .if1 .taken) ∙ rise.trap-zero (c .before .args .m))
+unfolding trapezoid
+returns c = sym (ap (trapezoid (c .before .args .m)) (c .if1 .taken))
 
 mul-result : tie.Need-mul-result
 mul-result c = omega (arith, prod-fits (c .before .args .c) (c .before .args .m) (omega arith) (omega arith))

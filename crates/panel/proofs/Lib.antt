@@ -1,0 +1,3 @@
+pub mod Cells
+pub mod Held
+pub mod Starts
