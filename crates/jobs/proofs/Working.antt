@@ -6,7 +6,7 @@ use mathlib.Core.List.{List, []}
 use Prim.Native.Nat.{ℕ, _+_, _≤_}
 use native.Mathlib.Numerals.{add-one}
 use native.Mathlib.Omega.{arith}
-use lib.ListN.{length, take}
+use lib.ListN.{length, take, length-append, length-drop}
 use lib.Ieee.{Float}
 use Rattle.statement.specs.Input.{Matrix, matrix}
 use Rattle.statement.specs.Calls.{factor}
@@ -129,3 +129,10 @@ gotten t r {st₀} {ro₀} {va₀} {ri₀} n cap entries {st} {ro} {va} {ri} d h
 pub reads-job : (t : List ℕ) (j : Frames) → readingOf t ≡ whole j → written (whole j) ≡ job t
 unfolding job
 reads-job t j q = ap written (sym q)
+
+-- ---- the buffer
+
+-- what is written fits
+pub wrote-fits : (s out₀ : List ℕ) {out : List ℕ} {r : ℕ} → Wrote s r out₀ out → r ≤ length out
+unfolding placed
+wrote-fits s out₀ w = let h = simp (length-append, length-drop) at (ap length (w .0)) in omega (arith, w .1)
