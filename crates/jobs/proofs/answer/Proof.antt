@@ -3,8 +3,8 @@ use native.Mathlib.Omega.{arith}
 use borrow.Author.Needs.{needs}
 use Rattle.room.proofs.Short.{accepted-first}
 use Rattle.jobs.proofs.Working.{refused-is, accepted-is, wrote-as}
-use Rattle.jobs.proofs.answer.Tie as tie
 use Rattle.jobs.proofs.answer.Statement.{statement}
+use Rattle.jobs.proofs.answer.Tie as tie
 
 returns : tie.Need-returns
 returns c =

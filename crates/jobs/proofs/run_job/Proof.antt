@@ -5,8 +5,8 @@ use borrow.Author.Needs.{needs}
 use lib.ListN.{length-take}
 use lib.Seq.{length-take-le}
 use Rattle.jobs.proofs.Working.{gotten, read-fault, reads-job, wrote-as}
-use Rattle.jobs.proofs.run_job.Tie as tie
 use Rattle.jobs.proofs.run_job.Statement.{statement}
+use Rattle.jobs.proofs.run_job.Tie as tie
 
 read-job-requires : tie.Need-read-job-requires
 read-job-requires c κs = record { starts = omega arith; rows = omega arith; values = omega arith; right = omega arith }

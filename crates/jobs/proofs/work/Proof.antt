@@ -2,8 +2,8 @@
 use mathlib.Core.Path.{refl, sym}
 use Rattle.statement.specs.Job.{jobRoom}
 use Rattle.jobs.proofs.Working.{made}
-use Rattle.jobs.proofs.work.Tie as tie
 use Rattle.jobs.proofs.work.Statement.{statement}
+use Rattle.jobs.proofs.work.Tie as tie
 
 slice-aggregate-answer : tie.Need-slice-aggregate-answer
 slice-aggregate-answer c =
