@@ -1,14 +1,17 @@
 #!/usr/bin/env python3
-"""Remakes the lists of this folder from the Rust source.
+"""Remakes the lists of the crate `replay` from the Rust source.
 
   remake.py SOURCE [--check]    SOURCE is the folder that holds the source's files as they were handed over;
-                                --check compares with the lists that stand here and writes nothing
+                                --check compares with the lists that stand and writes nothing
+  remake.py --table             counts the stored jobs by list, family and answer; needs no Rust
 
-Builds judge.rs over the unchanged module in a folder of its own, makes the jobs from the seed below, and writes jobs,
-answers and NAMES. Needs rustc and nothing else. The same seed makes the same bytes."""
+Builds judge.rs over the unchanged module in a folder of its own, makes the jobs from the seed below, and writes
+crates/replay/stdin (the jobs), crates/replay/stdout (the judge's answers) and NAMES. Needs rustc and nothing else. The
+same seed makes the same bytes."""
 import os, random, struct, subprocess, sys, tempfile
 
 HERE = os.path.dirname(os.path.abspath(__file__))
+CRATE = os.path.join(HERE, '..', '..', 'crates', 'replay')
 SEED, RANDOM_JOBS = 20261115, 150
 MODULE = 'src--crates--solver--src--cholesky.rs.txt'
 ANY = 0xFFFFFFFF
@@ -116,6 +119,9 @@ def fixed():
     for late in (63, 64, 65): yield 'near-8192-%d' % late, lines(128, hub(128, 127) | {(late, 127): 1., (127, 127): 9.}, one(128))
     yield 'entries-4096', ['01000200000009'] + ['020000' + '0000' + '%016X' % bits(4.)] * 4096 + ['03%04X%016X' % (k, 0) for k in (0, 1)] + ['04']
     yield 'entries-4097', ['01000200000009'] + ['020000' + '0000' + '%016X' % bits(4.)] * 4097 + ['03%04X%016X' % (k, 0) for k in (0, 1)] + ['04']
+    # 6 and 5 come before 9
+    yield 'cap-before-pivot', lines(3, arrow | {(0, 0): -1.}, one(3), 5)
+    yield 'values-before-pivot', lines(128, hub(128, 128) | {(0, 0): -1.}, one(128))
 
 def damaged():
     """One small job, with one thing wrong each time: what a line's frame, its place or its end can have wrong."""
@@ -200,16 +206,30 @@ def unframed(data):
         yield data[9:9 + k]
         data = data[10 + k:]
 
+NUMBERS = [0, 4, 5, 6, 9, 13]
+
+def table():
+    """The stored names, which begin with the list or the family, and the numbers of the stored answers."""
+    families = ['fixed'] * len(list(fixed())) + ['damaged'] * len(list(damaged()))
+    names = [l.split()[1] for l in open(os.path.join(HERE, 'NAMES'))]
+    families += [next(x[:-len(k) - 1] for k in sorted(KINDS, key=len, reverse=True) if x.endswith('-' + k)) for x in names[len(families):]]
+    told = [0 if x[:2] == b'81' else int(x[2:4], 16) for x in unframed(open(os.path.join(CRATE, 'stdout'), 'rb').read())]
+    assert len(names) == len(told) and set(told) == set(NUMBERS)
+    row = lambda name, l: print('|', name, '|', ' | '.join(str(x) for x in [len(l)] + [l.count(k) for k in NUMBERS]), '|')
+    print('| | jobs | accepted |', ' | '.join(str(k) for k in NUMBERS[1:]), '|\n|' + '---|' * 8)
+    for f in dict.fromkeys(families): row(f, [k for k, x in zip(told, families) if x == f])
+    row('all', told)
+
 def main():
+    if '--table' in sys.argv: return table()
     made = list(jobs())
     asked = framed(x for _, x in made)
     with tempfile.TemporaryDirectory() as d:
         told = subprocess.run([build(sys.argv[1], d)], input=asked, capture_output=True, check=True).stdout
     names = ''.join('%03d %s %s\n' % (k, name, x.split(b'\n')[0].decode()) for k, ((name, _), x) in enumerate(zip(made, unframed(told))))
-    for name, data in (('jobs', asked), ('answers', told), ('NAMES', names.encode())):
-        path = os.path.join(HERE, name)
+    for path, data in ((os.path.join(CRATE, 'stdin'), asked), (os.path.join(CRATE, 'stdout'), told), (os.path.join(HERE, 'NAMES'), names.encode())):
         if '--check' in sys.argv:
-            assert open(path, 'rb').read() == data, name + ' differs'
+            assert open(path, 'rb').read() == data, path + ' differs'
         else:
             open(path, 'wb').write(data)
     print(len(made), 'jobs')
