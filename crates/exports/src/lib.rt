@@ -159,7 +159,7 @@ pub extern "C" fn nosebagged_analyse(
 ) -> usize
     ensures { λ r. ⌜ AnalyseCrossed (analyse (matrix n (now («input_starts» .entry)) (now («input_rows» .entry)) (now («input_values» .entry))) cap (structureLent.lent (length (now (permutation .entry))) (length (now (firsts .entry))) (length (now (starts .entry))) (length (now (groups .entry))) (length (now (tasks .entry))) (length (now (top .entry))) (length (now (words .entry))) (length (now (rows .entry))) (length (now (updates .entry))))) r (now (results .exit)) (now (permutation .exit)) (now (firsts .exit)) (now (starts .exit)) (now (groups .exit)) (now (tasks .exit)) (now (top .exit)) (now (words .exit)) (now (rows .exit)) (now (updates .exit)) ⌝ }
 {
-    let x = analyse(
+    let found = analyse(
         n,
         input_starts,
         input_rows,
@@ -175,9 +175,9 @@ pub extern "C" fn nosebagged_analyse(
         rows,
         updates,
     );
-    let w = outcome_words(x);
+    let w = outcome_words(found);
     *results = w;
-    let a = x.answer;
+    let a = found.answer;
     number(a)
 }
 
@@ -207,7 +207,7 @@ pub extern "C" fn nosebagged_factor(
 ) -> usize
     ensures { λ r. ⌜ FactorCrossed (factor (matrix n (now («input_starts» .entry)) (now («input_rows» .entry)) (now («input_values» .entry))) cap (orderSaid order) (now (list .entry)) (stopSaid stop) (lentAll (length (now (permutation .entry))) (length (now (firsts .entry))) (length (now (starts .entry))) (length (now (groups .entry))) (length (now (tasks .entry))) (length (now (top .entry))) (length (now (words .entry))) (length (now (floats .entry))) (length (now (rows .entry))) (length (now (updates .entry))) (length (now (values .entry))))) r (now (results .exit)) (now (permutation .exit)) (now (firsts .exit)) (now (starts .exit)) (now (groups .exit)) (now (tasks .exit)) (now (top .exit)) (now (words .exit)) (now (floats .exit)) (now (rows .exit)) (now (updates .exit)) (now (values .exit)) ⌝ }
 {
-    let x = factor(
+    let made = factor(
         n,
         input_starts,
         input_rows,
@@ -228,9 +228,9 @@ pub extern "C" fn nosebagged_factor(
         updates,
         values,
     );
-    let w = outcome_words(x);
+    let w = outcome_words(made);
     *results = w;
-    let a = x.answer;
+    let a = made.answer;
     number(a)
 }
 

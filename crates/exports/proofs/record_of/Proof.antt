@@ -1,3 +1,4 @@
+-- `exports::record_of` meets its contract, word by word. Assumes nothing.
 use borrow.Author.Needs.{needs}
 use Rattle.exports.proofs.record_of.Statement.{statement}
 use Rattle.exports.proofs.record_of.Tie as tie
