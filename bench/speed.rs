@@ -1,14 +1,15 @@
 // Times the library beside the Rust baseline, in one run and by turns, and checks that they found the same. bench/run.sh builds and
 // runs it.
 //   speed [TURNS]
-// factor: the whole call. 'areas ready' has them allocated and touched beforehand, as a caller who factors again has them; 'areas
-// made' allocates them in the time measured, as the Rust allocates its own. The freeing of neither is measured.
+// factor: the whole call, twice on either side. 'made': all memory is allocated in the time measured. 'ready': the values (the Rust),
+// all areas (here) are allocated and written beforehand, as a caller who factors again has them; the Rust still allocates its
+// structure, and the library clears its areas once more. analyse: areas ready. The freeing of memory is not measured. Time is the
+// thread's time on a processor, so that waiting for other programs does not count.
 mod cholesky;
 mod nosebagged;
 use cholesky::{Symbolic, UpperColumns};
 use nosebagged::{Areas, Matrix, Order, Record, Stop};
 use std::hint::black_box;
-use std::time::Instant;
 
 // Upper columns by a test of the place (i, k), each with its value.
 fn columns(n: usize, rows: impl Fn(usize) -> Vec<usize>, value: impl Fn(usize, usize) -> f64) -> UpperColumns {
@@ -85,8 +86,8 @@ impl Times {
     }
 }
 
-// Each by turns, so that what disturbs the machine disturbs all.
-fn by_turns(turns: usize, mut each: Vec<(&str, Box<dyn FnMut() -> f64 + '_>)>) {
+// Each by turns, so that what disturbs the machine disturbs all; then the ratio of each pair, the later to the earlier.
+fn by_turns(turns: usize, mut each: Vec<(&str, Box<dyn FnMut() -> f64 + '_>)>, pairs: &[(&str, usize, usize)]) {
     let mut all: Vec<Vec<f64>> = vec![Vec::new(); each.len()];
     for _ in 0..turns {
         for ((_, f), t) in each.iter_mut().zip(&mut all) {
@@ -95,15 +96,34 @@ fn by_turns(turns: usize, mut each: Vec<(&str, Box<dyn FnMut() -> f64 + '_>)>) {
     }
     let all: Vec<Times> = all.into_iter().map(|t| Times(t).sort()).collect();
     for ((name, _), t) in each.iter().zip(&all) {
-        let (m, l) = (t.median(), t.least());
-        println!("  {name:28} median {:9.3} ms   least {:9.3} ms   ratio of medians {:5.3}, of least {:5.3}", m * 1e3, l * 1e3, m / all[0].median(), l / all[0].least());
+        println!("  {name:22} median {:9.3} ms   least {:9.3} ms", t.median() * 1e3, t.least() * 1e3);
+    }
+    for (name, a, b) in pairs {
+        println!("  ratio, {name:15} {:.3} by medians, {:.3} by least", all[*b].median() / all[*a].median(), all[*b].least() / all[*a].least());
     }
 }
 
+// POSIX's clock of the thread's own time.
+fn now() -> f64 {
+    #[repr(C)]
+    struct Timespec {
+        seconds: i64,
+        nanoseconds: i64,
+    }
+    unsafe extern "C" {
+        fn clock_gettime(clock: i32, t: *mut Timespec) -> i32;
+    }
+    const CLOCK_THREAD_CPUTIME_ID: i32 = 3;
+    let mut t = Timespec { seconds: 0, nanoseconds: 0 };
+    // Safe: t is what the call writes, laid out as 64-bit Linux has it.
+    assert_eq!(unsafe { clock_gettime(CLOCK_THREAD_CPUTIME_ID, &mut t) }, 0);
+    t.seconds as f64 + t.nanoseconds as f64 * 1e-9
+}
+
 fn timed<T>(f: impl FnOnce() -> T) -> (f64, T) {
-    let t = Instant::now();
+    let t = now();
     let x = black_box(f());
-    (t.elapsed().as_secs_f64(), x)
+    (now() - t, x)
 }
 
 fn show(name: &str, a: &UpperColumns, y: &Symbolic) {
@@ -116,8 +136,8 @@ fn analyses(a: &UpperColumns, y: &Symbolic, turns: usize) {
     same_structure(&nosebagged::analyse(view(a), usize::MAX, &mut s).unwrap(), &s, y);
     by_turns(turns, vec![
         ("analysis, the Rust", Box::new(|| timed(|| Symbolic::new(a, usize::MAX).unwrap()).0)),
-        ("analyse, areas ready", Box::new(|| timed(|| nosebagged::analyse(view(a), usize::MAX, &mut s).unwrap()).0)),
-    ]);
+        ("analyse, ready", Box::new(|| timed(|| nosebagged::analyse(view(a), usize::MAX, &mut s).unwrap()).0)),
+    ], &[("analysis", 0, 1)]);
 }
 
 fn factors(a: &UpperColumns, y: &Symbolic, turns: usize) {
@@ -128,10 +148,10 @@ fn factors(a: &UpperColumns, y: &Symbolic, turns: usize) {
     same_structure(&run(&mut s), &s, y);
     assert!(s.values.iter().map(|x| x.to_bits()).eq(bits), "values differ");
     println!("  values: {} entries, the same bits", s.values.len());
+    let mut v = y.allocate().unwrap();
     by_turns(turns, vec![
-        ("factor, the Rust", Box::new(|| timed(|| cholesky::Factor::new(a, usize::MAX).unwrap()).0)),
-        ("factor, areas ready", Box::new(|| timed(|| run(&mut s)).0)),
-        ("factor, areas made", Box::new(|| {
+        ("the Rust, made", Box::new(|| timed(|| cholesky::Factor::new(a, usize::MAX).unwrap()).0)),
+        ("factor, made", Box::new(|| {
             timed(|| {
                 let mut s = areas(a, y);
                 run(&mut s);
@@ -139,7 +159,17 @@ fn factors(a: &UpperColumns, y: &Symbolic, turns: usize) {
             })
             .0
         })),
-    ]);
+        ("the Rust, ready", Box::new(|| {
+            v.iter_mut().for_each(|x| x.fill(0.0));
+            timed(|| {
+                let y = Symbolic::new(a, usize::MAX).unwrap();
+                y.factor(&mut v, |c, j, done, base, own| c.supernode(j, done, base, own)).unwrap();
+                y
+            })
+            .0
+        })),
+        ("factor, ready", Box::new(|| timed(|| run(&mut s)).0)),
+    ], &[("memory made", 0, 1), ("memory ready", 2, 3)]);
 }
 
 fn main() {
