@@ -7,8 +7,8 @@
 // thread's time on a processor, so that waiting for other programs does not count.
 mod cholesky;
 mod nosebagged;
-use cholesky::{Symbolic, UpperColumns};
-use nosebagged::{Areas, Matrix, Order, Record, Stop};
+use cholesky::{FactorError, Symbolic, UpperColumns};
+use nosebagged::{Areas, Matrix, Order, Record, Refusal, Stop};
 use std::hint::black_box;
 
 // Upper columns by a test of the place (i, k), each with its value.
@@ -172,6 +172,26 @@ fn factors(a: &UpperColumns, y: &Symbolic, turns: usize) {
     ], &[("memory made", 0, 1), ("memory ready", 2, 3)]);
 }
 
+// The first row full: everything fills in, and the cap refuses it once the entries are counted.
+fn refusals(n: usize, turns: usize) {
+    let a = columns(n, |k| if k == 0 { vec![0] } else { vec![0, k] }, |i, k| if i == k { 2.0 * n as f64 } else { -1.0 });
+    let mut s = touched(Areas::new(n, a.idx.len()));
+    let entries = n * (n + 1) / 2;
+    println!("all fills in: n {n}, stored {}, refused by a cap of 1,000,000: entries of L {entries}", a.idx.len());
+    by_turns(turns, vec![
+        ("refused, the Rust", Box::new(|| {
+            let (t, x) = timed(|| Symbolic::new(&a, 1000000));
+            assert!(matches!(x, Err(FactorError::TooLarge { entries: e, .. }) if e == entries));
+            t
+        })),
+        ("analyse, refused", Box::new(|| {
+            let (t, x) = timed(|| nosebagged::analyse(view(&a), 1000000, &mut s));
+            assert_eq!(x, Err(Refusal::OverCap { entries, cap: 1000000 }));
+            t
+        })),
+    ], &[("refusal", 0, 1)]);
+}
+
 fn main() {
     let turns: usize = std::env::args().nth(1).map_or(31, |w| w.parse().expect("a number of turns"));
     for (name, a, turns) in [("dense 512", dense(512), turns), ("grid 100 x 100", grid(100, 100), turns.div_ceil(2))] {
@@ -185,4 +205,5 @@ fn main() {
         show(name, &a, &y);
         analyses(&a, &y, turns.div_ceil(4));
     }
+    refusals(32768, turns.div_ceil(10));
 }
