@@ -1,0 +1,48 @@
+#!/bin/sh
+# Holds the library to the Rust baseline, then times both.
+#   bench/run.sh SOURCE [TURNS]
+# SOURCE: the folder with the Rust's cholesky.rs (one file whose name has 'cholesky.rs' in it). TURNS: how often each is timed, 31 if
+# not given. Needs rt, rustc and python3; a C compiler, if there is one, tries the header too. RUSTFLAGS_MORE goes to rustc, as
+# '-C target-cpu=native'. All but rt's own target/ is made in a temporary folder, which is removed.
+set -eu
+if [ $# -lt 1 ] || [ $# -gt 2 ]; then
+    sed -n '2,6s/^# \{0,1\}//p' "$0"
+    exit 2
+fi
+source=$1
+turns=${2:-31}
+here=$(cd "$(dirname "$0")/.." && pwd)
+if [ "$(uname -m)" != x86_64 ]; then
+    echo "skipped on $(uname -m): the comparison and the timing. Rattle compiles for x86-64 alone, so its library links into no program of this machine."
+    exit 0
+fi
+count=$(find "$source" -maxdepth 1 -type f -name '*cholesky.rs*' | wc -l)
+if [ "$count" -ne 1 ]; then
+    echo "$source has $count files whose name has 'cholesky.rs' in it, and one is wanted" >&2
+    exit 2
+fi
+file=$(find "$source" -maxdepth 1 -type f -name '*cholesky.rs*')
+file=$(cd "$(dirname "$file")" && pwd)/$(basename "$file")
+build=$(mktemp -d)
+trap 'rm -rf "$build"' EXIT
+trap 'exit 1' HUP INT TERM
+
+cd "$here"
+rt staticlib exports > "$build/log" 2>&1 || { cat "$build/log" >&2; exit 1; }
+cp target/staticlib/libexports.a bindings/nosebagged.rs bindings/compare.rs bench/speed.rs "$build"
+python3 bench/baseline.py "$file" "$build/cholesky.rs"
+if command -v cc > /dev/null; then
+    cc -Wall -Wextra -std=c99 -I bindings -o "$build/check" bindings/check.c "$build/libexports.a"
+    "$build/check"
+else
+    echo "C: skipped, there is no cc"
+fi
+cd "$build"
+for p in compare speed; do
+    # shellcheck disable=SC2086
+    rustc --edition 2024 -C opt-level=3 ${RUSTFLAGS_MORE:-} -A warnings -L . -l static=exports -o "$p" "$p.rs"
+done
+./compare
+echo "load before the timing: $(cut -d ' ' -f 1-3 /proc/loadavg), processors: $(nproc)"
+./speed "$turns"
+echo "load after it: $(cut -d ' ' -f 1-3 /proc/loadavg)"

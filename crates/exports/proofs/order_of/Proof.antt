@@ -1,0 +1,13 @@
+-- `exports::order_of` meets its contract, by its test. Assumes nothing.
+use borrow.Author.Tests.{eq-eqb, ne-eqb}
+use Rattle.exports.proofs.order_of.Statement.{statement}
+use Rattle.exports.proofs.order_of.Tie as tie
+
+returns : tie.Need-returns
+returns c = rw (eq-eqb _ _ (c .if1 .taken))
+
+returns-2 : tie.Need-returns-2
+returns-2 c = rw (ne-eqb _ _ (c .if1 .left))
+
+pub order-of-spec : {M : Type 1} → statement M
+order-of-spec = tie.close (tie.spec returns returns-2)

@@ -1,0 +1,295 @@
+// The four calls for programs in C and Rust: the static library. Only numbers and slices cross, so that enums and records are
+// words; what each word means is in specs/Words.
+ghost use mathlib.Core.Path.{_≡_};
+ghost use mathlib.Core.List.{_++_};
+ghost use Prim.Native.Nat.{_≤_};
+ghost use lib.ListN.{length, drop};
+ghost use Rattle.statement.specs.Input.{matrix};
+ghost use Rattle.statement.specs.Calls.{analyse, factor};
+ghost use Rattle.statement.specs.Solve.{solve, view};
+ghost use Rattle.laws.specs.Lent.{lent};
+ghost use Rattle.analyse.specs.Lent as structureLent;
+ghost use Rattle.factor.specs.Filled.{lentAll};
+ghost use Rattle.exports.specs.Words.{stageWord, answerWords, outcomeWords, handed, orderSaid, stopSaid, stageSaid, recordSaid};
+ghost use Rattle.exports.specs.Crossed.{AnalyseCrossed, FactorCrossed, SolveCrossed, ColumnCrossed};
+use analyse::analyse;
+use answers::first_detail;
+use answers::number;
+use answers::second_detail;
+use areas::clear_floats;
+use factor::factor;
+use solve::column;
+use solve::solve;
+use statement::Answer;
+use statement::Factored;
+use statement::Order;
+use statement::Outcome;
+use statement::Record;
+use statement::Stage;
+use statement::Stop;
+
+fn stage_word(s: Stage) -> usize
+    ensures { λ r. ⌜ r ≡ stageWord s ⌝ }
+{
+    match s {
+        Stage::Empty => 0,
+        Stage::Analysed => 1,
+        Stage::Partial => 2,
+        Stage::Full => 3,
+    }
+}
+
+fn answer_words(a: Answer) -> [usize; 3]
+    ensures { λ r. ⌜ r ≡ answerWords a ⌝ }
+{
+    [number(a), first_detail(a), second_detail(a)]
+}
+
+// The answer's words, then the record's.
+fn outcome_words(x: Outcome) -> [usize; 12]
+    ensures { λ r. ⌜ r ≡ outcomeWords x ⌝ }
+{
+    let a = x.answer;
+    let r = x.record;
+    let s = r.state;
+    [
+        number(a),
+        first_detail(a),
+        second_detail(a),
+        stage_word(s),
+        r.n,
+        r.supernodes,
+        r.rows,
+        r.updates,
+        r.tasks,
+        r.top,
+        r.entries,
+        r.work,
+    ]
+}
+
+fn order_of(word: usize) -> Order
+    ensures { λ r. ⌜ r ≡ orderSaid word ⌝ }
+{
+    if word == 0 {
+        return Order::Plain;
+    }
+    Order::Listed
+}
+
+fn stop_of(word: usize) -> Stop
+    ensures { λ r. ⌜ r ≡ stopSaid word ⌝ }
+{
+    if word == usize::MAX {
+        return Stop::End;
+    }
+    Stop::After(word)
+}
+
+fn stage_of(word: usize) -> Stage
+    ensures { λ r. ⌜ r ≡ stageSaid word ⌝ }
+{
+    if word == 1 {
+        return Stage::Analysed;
+    }
+    if word == 2 {
+        return Stage::Partial;
+    }
+    if word == 3 {
+        return Stage::Full;
+    }
+    Stage::Empty
+}
+
+fn record_of(words: &[usize; 9]) -> Record
+    ensures { λ r. ⌜ r ≡ recordSaid (now (words .entry)) ⌝ }
+{
+    Record {
+        state: stage_of(words[0]),
+        n: words[1],
+        supernodes: words[2],
+        rows: words[3],
+        updates: words[4],
+        tasks: words[5],
+        top: words[6],
+        entries: words[7],
+        work: words[8],
+    }
+}
+
+fn copy_floats(from: &[f64], to: &mut [f64])
+    requires { ⌜ length (now from) ≤ length (now to) ⌝ }
+    ensures { λ _. ⌜ now (to .exit) ≡ now (from .entry) ++ drop (length (now (from .entry))) (now (to .entry)) ⌝ }
+{
+    let mut i: usize = 0;
+    while i < from.len() {
+        to[i] = from[i];
+        i += 1;
+    }
+}
+
+// The part and zeros after it; zeros alone where it does not fit.
+fn hand(part: &[f64], to: &mut [f64])
+    ensures { λ _. ⌜ now (to .exit) ≡ handed (length (now (to .entry))) (now (part .entry)) ⌝ }
+{
+    clear_floats(to);
+    if part.len() <= to.len() {
+        copy_floats(part, to);
+    }
+}
+
+// analyse; the number is returned, and results has the words of the outcome.
+#[no_mangle]
+pub extern "C" fn nosebagged_analyse(
+    n: usize,
+    input_starts: &[usize],
+    input_rows: &[usize],
+    input_values: &[f64],
+    cap: usize,
+    permutation: &mut [usize],
+    firsts: &mut [usize],
+    starts: &mut [usize],
+    groups: &mut [usize],
+    tasks: &mut [usize],
+    top: &mut [usize],
+    words: &mut [usize],
+    rows: &mut [usize],
+    updates: &mut [[usize; 3]],
+    results: &mut [usize; 12],
+) -> usize
+    ensures { λ r. ⌜ AnalyseCrossed (analyse (matrix n (now («input_starts» .entry)) (now («input_rows» .entry)) (now («input_values» .entry))) cap (structureLent.lent (length (now (permutation .entry))) (length (now (firsts .entry))) (length (now (starts .entry))) (length (now (groups .entry))) (length (now (tasks .entry))) (length (now (top .entry))) (length (now (words .entry))) (length (now (rows .entry))) (length (now (updates .entry))))) r (now (results .exit)) (now (permutation .exit)) (now (firsts .exit)) (now (starts .exit)) (now (groups .exit)) (now (tasks .exit)) (now (top .exit)) (now (words .exit)) (now (rows .exit)) (now (updates .exit)) ⌝ }
+{
+    let found = analyse(
+        n,
+        input_starts,
+        input_rows,
+        input_values,
+        cap,
+        permutation,
+        firsts,
+        starts,
+        groups,
+        tasks,
+        top,
+        words,
+        rows,
+        updates,
+    );
+    let w = outcome_words(found);
+    *results = w;
+    let a = found.answer;
+    number(a)
+}
+
+// factor, in the order and up to the stop that the words say.
+#[no_mangle]
+pub extern "C" fn nosebagged_factor(
+    n: usize,
+    input_starts: &[usize],
+    input_rows: &[usize],
+    input_values: &[f64],
+    cap: usize,
+    order: usize,
+    list: &[usize],
+    stop: usize,
+    permutation: &mut [usize],
+    firsts: &mut [usize],
+    starts: &mut [usize],
+    groups: &mut [usize],
+    tasks: &mut [usize],
+    top: &mut [usize],
+    words: &mut [usize],
+    floats: &mut [f64],
+    rows: &mut [usize],
+    updates: &mut [[usize; 3]],
+    values: &mut [f64],
+    results: &mut [usize; 12],
+) -> usize
+    ensures { λ r. ⌜ FactorCrossed (factor (matrix n (now («input_starts» .entry)) (now («input_rows» .entry)) (now («input_values» .entry))) cap (orderSaid order) (now (list .entry)) (stopSaid stop) (lentAll (length (now (permutation .entry))) (length (now (firsts .entry))) (length (now (starts .entry))) (length (now (groups .entry))) (length (now (tasks .entry))) (length (now (top .entry))) (length (now (words .entry))) (length (now (floats .entry))) (length (now (rows .entry))) (length (now (updates .entry))) (length (now (values .entry))))) r (now (results .exit)) (now (permutation .exit)) (now (firsts .exit)) (now (starts .exit)) (now (groups .exit)) (now (tasks .exit)) (now (top .exit)) (now (words .exit)) (now (floats .exit)) (now (rows .exit)) (now (updates .exit)) (now (values .exit)) ⌝ }
+{
+    let made = factor(
+        n,
+        input_starts,
+        input_rows,
+        input_values,
+        cap,
+        order_of(order),
+        list,
+        stop_of(stop),
+        permutation,
+        firsts,
+        starts,
+        groups,
+        tasks,
+        top,
+        words,
+        floats,
+        rows,
+        updates,
+        values,
+    );
+    let w = outcome_words(made);
+    *results = w;
+    let a = made.answer;
+    number(a)
+}
+
+// solve with the record in its nine words; the number is returned, and answer has it with its details.
+#[no_mangle]
+pub extern "C" fn nosebagged_solve(
+    record: &[usize; 9],
+    permutation: &[usize],
+    firsts: &[usize],
+    starts: &[usize],
+    rows: &[usize],
+    values: &[f64],
+    words: &mut [usize],
+    floats: &mut [f64],
+    b: &mut [f64],
+    answer: &mut [usize; 3],
+) -> usize
+    ensures { λ r. ⌜ SolveCrossed (solve (recordSaid (now («record» .entry))) (lent (now (permutation .entry)) (now (firsts .entry)) (now (starts .entry)) (now (rows .entry)) (now (values .entry))) (now (b .entry)) (length (now (words .entry))) (length (now (floats .entry)))) r (now (answer .exit)) (now (words .exit)) (now (floats .exit)) (now (b .exit)) ⌝ }
+{
+    let a = solve(
+        record_of(record),
+        permutation,
+        firsts,
+        starts,
+        rows,
+        values,
+        words,
+        floats,
+        b,
+    );
+    let w = answer_words(a);
+    *answer = w;
+    number(a)
+}
+
+// The view. A reference cannot be returned to C, and where the part begins is not in the view's contract, so the column is copied
+// to lent floats; its length is returned, and a caller that lends none learns it.
+#[no_mangle]
+pub extern "C" fn nosebagged_column(
+    record: &[usize; 9],
+    permutation: &[usize],
+    firsts: &[usize],
+    starts: &[usize],
+    rows: &[usize],
+    values: &[f64],
+    q: usize,
+    to: &mut [f64],
+) -> usize
+    ensures { λ r. ⌜ ColumnCrossed (view (recordSaid (now («record» .entry))) (lent (now (permutation .entry)) (now (firsts .entry)) (now (starts .entry)) (now (rows .entry)) (now (values .entry))) (record { 0 = q })) (length (now (to .entry))) r (now (to .exit)) ⌝ }
+{
+    let part = column(
+        record_of(record),
+        permutation,
+        firsts,
+        starts,
+        rows,
+        values,
+        Factored(q),
+    );
+    hand(part, to);
+    part.len()
+}
