@@ -22,7 +22,7 @@ use Rattle.survey.proofs.Surveying.{long}
 use Rattle.survey.proofs.Reading.{held-is, enough-words}
 use Rattle.survey.proofs.Zeros.{zeros-length}
 use Rattle.ready.specs.Known.{Structured}
-use Rattle.factor.specs.Filled.{zeroFloats}
+use Rattle.elimination.specs.Filled.{zeroFloats}
 
 enough-floats : (M : Matrix) (r : Room) → short (factorNeeds M r) ≡ none → rowsLength M + M .n ≤ r .floats
 unfolding factorNeeds needs

@@ -4,12 +4,11 @@ use mathlib.Core.Logic.{_≢_}
 use mathlib.Core.Bool.{Bool, true, false, cond}
 use mathlib.Core.List.{List, map}
 use mathlib.Core.Option.{Option, none, some}
-use Prim.Native.Nat.{ℕ, _≤_, _<_}
+use Prim.Native.Nat.{ℕ}
 use native.Mathlib.Omega.{arith}
 use lib.Dec.{ltb}
 use lib.ListN.{length, replicate}
 use lib.Ieee.{Float}
-use borrow.Author.Tests.{le-ltb, lt-ltb}
 use Rattle.statement.specs.Input.{Matrix, +0}
 use Rattle.statement.specs.Shape.{supernodes}
 use Rattle.statement.specs.Tasks.{splitOf}
@@ -38,7 +37,8 @@ use Rattle.survey.specs.declared.Findings.{Findings}
 use Rattle.survey.proofs.Clearing.{Lengths, blank-of}
 use Rattle.survey.proofs.Zeros.{zeros-length}
 use Rattle.survey.proofs.Settling.{map-replicate, map-held, refused-out, refused-areas}
-use Rattle.factor.specs.Filled.{ran, orderTest, pivotTest, Filled, FactorFills, FactorSettles, lentAll, zeroFloats}
+use Rattle.elimination.specs.Filled.{ran, orderTest, pivotTest, Filled, zeroFloats}
+use Rattle.factor.specs.Filled.{FactorFills, FactorSettles, lentAll}
 
 -- ---- the tests
 
@@ -210,11 +210,3 @@ lent-same a b c d e f g h k l m = λ i. lentAll (a i) (b i) (c i) (d i) (e i) (f
 
 pub fills-at : (M : Matrix) (cap : ℕ) (order : Order) (list : List ℕ) (e : Stop) {r r′ : Room} {x : Outcome} {p f s g t o n : List ℕ} {u : List (List ℕ)} {v : List Float} → r ≡ r′ → FactorFills (factor M cap order list e r) x p f s g t o n u v → FactorFills (factor M cap order list e r′) x p f s g t o n u v
 fills-at M cap order list e q h = rw q at h
-
--- ---- the stage, by the stop count
-
-pub before-end : (t k m : ℕ) → t ≡ k → t < m → Partial ≡ cond (ltb k m) Partial Full
-before-end t k m e h = rw (lt-ltb k m (omega arith))
-
-pub at-end : (t k m : ℕ) → t ≡ k → m ≤ t → Full ≡ cond (ltb k m) Partial Full
-at-end t k m e h = rw (le-ltb k m (omega arith))

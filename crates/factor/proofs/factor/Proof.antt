@@ -1,5 +1,5 @@
 -- `factor::factor` meets its contract: call by call. Assumes nothing.
-use Rattle.factor.specs.Filled.{zeroFloats}
+use Rattle.elimination.specs.Filled.{zeroFloats}
 use mathlib.Core.Path.{sym, refl, ap, _∙_}
 use Rattle.statement.specs.Input.{matrix}
 use Rattle.room.proofs.Short.{accepted-first}

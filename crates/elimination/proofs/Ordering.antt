@@ -28,7 +28,7 @@ use Rattle.measure.proofs.Stages.{or-first, or-next}
 use Rattle.order.specs.Waiting.{Above, Of}
 use Rattle.order.proofs.Shaped.{shape-above, shape-of}
 use Rattle.ready.specs.Known.{Known, shapeFor}
-use Rattle.factor.specs.Filled.{orderTest, pivotTest, Filled}
+use Rattle.elimination.specs.Filled.{orderTest, pivotTest, Filled}
 
 answered-none : (f : Option ℕ) → answered (wrongPosition f) ≡ Accepted → wrongPosition f ≡ none
 unfolding wrongPosition answered

@@ -41,7 +41,7 @@ use Rattle.run.proofs.Whole.{due-of, ran-of}
 use Rattle.order.proofs.Shaped.{shape-above}
 use Rattle.order.proofs.Shaped as parents
 use Rattle.ready.specs.Known.{Structured, Laid, shapeFor, offsetsAt, parentsAt, startsAt, rowsAt}
-use Rattle.factor.specs.Filled.{ran, orderTest, pivotTest, Filled, isPlain, zeroFloats}
+use Rattle.elimination.specs.Filled.{ran, orderTest, pivotTest, Filled, isPlain, zeroFloats}
 
 no-position : (f : Option ℕ) → wrongPosition f ≡ none → f ≡ none
 unfolding wrongPosition

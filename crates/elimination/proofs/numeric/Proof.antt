@@ -1,13 +1,13 @@
-use Rattle.factor.proofs.Ordering.{places-long, above, of, refused-order, legal, then-pivot}
-use Rattle.factor.proofs.Eliminating.{fewer}
+use Rattle.elimination.proofs.Ordering.{places-long, above, of, refused-order, legal, then-pivot}
+use Rattle.elimination.proofs.Eliminating.{fewer}
 use Rattle.ready.specs.Known.{shapeFor}
 use Rattle.areas.proofs.Tail.{tail-length}
 use Rattle.room.proofs.Short.{accepted-first}
 use Rattle.statement.specs.Input.{matrix}
 use native.Mathlib.Omega.{arith}
 use borrow.Author.Needs.{needs}
-use Rattle.factor.proofs.numeric.Statement.{statement}
-use Rattle.factor.proofs.numeric.Tie as tie
+use Rattle.elimination.proofs.numeric.Statement.{statement}
+use Rattle.elimination.proofs.numeric.Tie as tie
 
 mul-order-fault : tie.Need-mul-order-fault
 mul-order-fault c = search needs

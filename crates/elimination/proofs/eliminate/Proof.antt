@@ -1,13 +1,13 @@
-use Rattle.factor.proofs.Eliminating.{asked}
+use Rattle.elimination.proofs.Eliminating.{asked}
 use Rattle.ready.specs.Known.{shapeFor}
-use Rattle.factor.proofs.Eliminating.{part-zero, due, left, column-there, breaks, stands, back-held}
+use Rattle.elimination.proofs.Eliminating.{part-zero, due, left, column-there, breaks, stands, back-held}
 use Rattle.statement.specs.Input.{matrix}
 use lib.ListN.{length-take}
 use mathlib.Core.Path.{sym, _∙_}
 use native.Mathlib.Omega.{arith}
 use borrow.Author.Needs.{needs}
-use Rattle.factor.proofs.eliminate.Statement.{statement}
-use Rattle.factor.proofs.eliminate.Tie as tie
+use Rattle.elimination.proofs.eliminate.Statement.{statement}
+use Rattle.elimination.proofs.eliminate.Tie as tie
 
 stop-at-requires : tie.Need-stop-at-requires
 stop-at-requires c κs = search needs
