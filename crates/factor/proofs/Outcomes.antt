@@ -38,7 +38,7 @@ use Rattle.survey.proofs.Clearing.{Lengths, blank-of}
 use Rattle.survey.proofs.Zeros.{zeros-length}
 use Rattle.survey.proofs.Settling.{map-replicate, map-held, refused-out, refused-areas}
 use Rattle.elimination.specs.Filled.{ran, orderTest, pivotTest, Filled, zeroFloats}
-use Rattle.factor.specs.Filled.{FactorFills, FactorSettles, lentAll}
+use Rattle.factor.specs.Filled.{FactorFills, FactorSettles}
 
 -- ---- the tests
 
@@ -204,9 +204,6 @@ module _ (M : Matrix) (cap : ℕ) (order : Order) (list : List ℕ) (e : Stop) (
       floats-clear none R X e = unfold settled in e
       floats-clear (some a) R X e = unfold settled cleared in refl
 
--- the same room, however the lengths were come by
-pub lent-same : {p f s g t o w x n u v p′ f′ s′ g′ t′ o′ w′ x′ n′ u′ v′ : ℕ} → p ≡ p′ → f ≡ f′ → s ≡ s′ → g ≡ g′ → t ≡ t′ → o ≡ o′ → w ≡ w′ → x ≡ x′ → n ≡ n′ → u ≡ u′ → v ≡ v′ → lentAll p f s g t o w x n u v ≡ lentAll p′ f′ s′ g′ t′ o′ w′ x′ n′ u′ v′
-lent-same a b c d e f g h k l m = λ i. lentAll (a i) (b i) (c i) (d i) (e i) (f i) (g i) (h i) (k i) (l i) (m i)
-
-pub fills-at : (M : Matrix) (cap : ℕ) (order : Order) (list : List ℕ) (e : Stop) {r r′ : Room} {x : Outcome} {p f s g t o n : List ℕ} {u : List (List ℕ)} {v : List Float} → r ≡ r′ → FactorFills (factor M cap order list e r) x p f s g t o n u v → FactorFills (factor M cap order list e r′) x p f s g t o n u v
-fills-at M cap order list e q h = rw q at h
+-- the same room, however it was come by
+pub settles-at : (M : Matrix) (cap : ℕ) (order : Order) (list : List ℕ) (e : Stop) {r r′ : Room} {x : Outcome} {p f s g t o w n : List ℕ} {u : List (List ℕ)} {y v : List Float} → r ≡ r′ → FactorSettles (factor M cap order list e r) x p f s g t o w y n u v → FactorSettles (factor M cap order list e r′) x p f s g t o w y n u v
+settles-at M cap order list e q h = rw q at h
