@@ -1,18 +1,20 @@
 -- The definitions' theorems, composed with the call's contract. Assumes nothing.
 use mathlib.Core.Path.{_≡_, refl, sym, ap, _∙_}
 use mathlib.Core.Logic.{_↔_}
-use mathlib.Core.Bool.{Bool, true, false, cond}
-use mathlib.Core.List.{List, [], _++_}
-use Prim.Native.Nat.{ℕ, _+_, _-_, _≤_, _<_}
+use mathlib.Core.Bool.{Bool, true, false, cond, _||_}
+use mathlib.Core.List.{List, [], _∷_, _++_}
+use Prim.Native.Nat.{ℕ, zero, suc, _+_, _-_, _≤_, _<_}
+use native.Mathlib.Nat.{le-refl}
 use native.Mathlib.Omega.{arith}
-use lib.Dec.{ltb}
+use lib.Dec.{ltb, eqb}
 use lib.ListN.{length, getD, take, drop, replicate, length-append, length-replicate, getD-replicate, List·getD-append}
 use lib.Seq.{take-append-seam, getD-append-add, drop-at}
 use borrow.Author.Tests.{ltb-true, ltb-false}
 use lib.Ieee.{Float, nan}
+use Rattle.statement.specs.Lists.{has}
 use Rattle.statement.specs.Input.{Matrix, pattern, +0}
 use Rattle.statement.specs.Fill.{entries}
-use Rattle.statement.specs.Shape.{supernodes, width}
+use Rattle.statement.specs.Shape.{supernodes, width, stretch}
 use Rattle.statement.specs.Root.{finite}
 use Rattle.statement.specs.Rules.{Out, made, broke}
 use Rattle.statement.specs.Run.{pass}
@@ -81,6 +83,18 @@ module _ (m : ℕ) (v l : List Float) (is : l ≡ held m +0 v) where
           ap (λ z. finite (getD (v ++ replicate (m - length v) +0) z nan)) e
           ∙ ap finite (getD-append-add v (replicate (m - length v) +0) (p - length v) nan ∙ getD-replicate (m - length v) (p - length v) +0 nan (omega (arith, ltb-false p (length v) q, more)))
           ∙ unfold finite in refl
+
+-- what is named among the first t is named among more
+named-more : (K t m : ℕ) (l : List ℕ) → t ≤ m → has K (take t l) ≡ true → has K (take m l) ≡ true
+unfolding has
+named-more K zero m l h q = absurd (let z : _≡_ {A = ℕ} 0 1 = cc in omega arith)
+named-more K (suc t) zero l h q = absurd (omega arith)
+named-more K (suc t) (suc m) [] h q = q
+named-more K (suc t) (suc m) (J ∷ l) h q = go (eqb J K) (named-more K t m l (omega arith)) q
+  where
+    go : (b : Bool) → (has K (take t l) ≡ true → has K (take m l) ≡ true) → (b || has K (take t l)) ≡ true → (b || has K (take m l)) ≡ true
+    go true f k = refl
+    go false f k = f k
 
 -- ---- one call told as another
 
@@ -171,10 +185,16 @@ module _ (M : Matrix) (cap : ℕ) (r : Room) where
           unnamed = λ K j k. rw (z .0) (s .unnamed K j k);
         }
 
+    bits : (t : ℕ) (beside : List ℕ) (e : Stop) (x y : Left) → t ≤ N M cap r → Whole M cap r e → Call M cap Listed l (After t) r x → x .outcome .answer ≡ Accepted → Call M cap Plain beside e r y → y .outcome .answer ≡ Accepted
+        → (K : ℕ) → has K (take t l) ≡ true → stretch (S M cap r) (inEleven M cap r x) K ≡ stretch (S M cap r) (inEleven M cap r y) K
+    bits t beside e x y b w h a k d K q =
+        let y′ = said-as y (stop-as Plain beside e End w ∙ beside-as beside End ∙ sym (three .same) ∙ stop-as Listed l End (After (N M cap r)) refl) k in
+        stops t x b h a .named K q ∙ sym (stops (N M cap r) y (le-refl _) y′ d .named K (named-more K t (N M cap r) l b q))
+
 -- ---- the promises
 
 pub demand-three-kept : DemandThree
-demand-three-kept M cap r such l names = record { same = same M cap r such l names; either = either M cap r such l names; exactly = exactly M cap r such l names; stops = stops M cap r such l names }
+demand-three-kept M cap r such l names = record { same = same M cap r such l names; either = either M cap r such l names; exactly = exactly M cap r such l names; stops = stops M cap r such l names; bits = bits M cap r such l names }
 
 pub on-success : OnSuccess
 on-success M cap o l e r x f w h a = success M cap r such (orderOf (analysis M .shape) o l) (g .1 .0) e x w (said-as x (listed-as M cap r o l e) h) a

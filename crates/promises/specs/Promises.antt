@@ -104,6 +104,9 @@ module _ (M : Matrix) (cap : ℕ) (r : Room) where
     pub exactly : (e : Stop) (x : Left) → Whole e → Call M cap Listed l e r x → (x .outcome .answer ≡ Accepted) ↔ ((v : List Float) × (length v ≡ entries (pattern M) (M .n)) × ((K c : ℕ) → K < N M cap r → c < width (S M cap r) K → Obeys (S M cap r) (A M cap r) v K c))
     -- stopped after any number of steps with no failure so far
     pub stops : (t : ℕ) (x : Left) → t ≤ N M cap r → Call M cap Listed l (After t) r x → x .outcome .answer ≡ Accepted → Stopped l t x
+    -- and they hold the bits that a plain call y leaves at its end, if it is accepted
+    pub bits : (t : ℕ) (beside : List ℕ) (e : Stop) (x y : Left) → t ≤ N M cap r → Whole e → Call M cap Listed l (After t) r x → x .outcome .answer ≡ Accepted → Call M cap Plain beside e r y → y .outcome .answer ≡ Accepted
+        → (K : ℕ) → has K (take t l) ≡ true → stretch (S M cap r) (inEleven x) K ≡ stretch (S M cap r) (inEleven y) K
 
 -- demand 3: such a matrix, cap and room enough, and any list naming each supernode once, children before parents
 abbrev pub DemandThree : Type 0
