@@ -43,6 +43,14 @@ pub fn clear_structure(
     clear_updates(updates);
 }
 
+// Areas 8 and 11: the scratch floats and the values.
+fn clear_numbers(floats: &mut [f64], values: &mut [f64])
+    ensures { λ _. ⌜ (now (floats .exit) ≡ replicate (length (now (floats .entry))) +0) × (now (values .exit) ≡ replicate (length (now (values .entry))) +0) ⌝ }
+{
+    clear_floats(floats);
+    clear_floats(values);
+}
+
 // All eleven: those of the structure, the scratch floats and the values; and the room that they give.
 pub fn clear_all(
     permutation: &mut [usize],
@@ -74,8 +82,7 @@ pub fn clear_all(
         updates: updates.len(),
         values: values.len(),
     };
-    clear_floats(floats);
-    clear_floats(values);
+    clear_numbers(floats, values);
     clear_structure(
         permutation,
         firsts,

@@ -129,15 +129,17 @@ module _ (M : Matrix) (cap : ℕ) (r : Room) where
   success-of : (said : Settled) (v : List Float) (x : Left) → Completed M cap r said v → Leaves said x → Success M cap r x × (inEleven M cap r x ≡ v)
   success-of said v x c h =
       let is = h .eleven ∙ ap (λ a. a .values) (c .areas) ∙ values-of v in
-      let z = eleven-of v x (c .filled) is in
-      (record {
-        answer = ap (λ o. o .answer) (h .structure .out) ∙ c .answer;
-        summary = ap (λ o. o .«record») (h .structure .out) ∙ c .summary;
-        finite = all-finite (r .values) v (x .values) is (c .finite);
-        eleven = z .1;
-        places = c .places;
-        rules = λ K k a b. rw (z .0) (c .rules K k a b);
-      }, z .0)
+      let z = eleven-of v x (c .filled) is in (
+        record {
+          answer = ap (λ o. o .answer) (h .structure .out) ∙ c .answer;
+          summary = ap (λ o. o .«record») (h .structure .out) ∙ c .summary;
+          finite = all-finite (r .values) v (x .values) is (c .finite);
+          eleven = z .1;
+          places = c .places;
+          rules = λ K k a b. rw (z .0) (c .rules K k a b);
+        },
+        z .0,
+      )
 
   either-of : (said : Settled) (x : Left) (o : Out) → demands.Either M cap r said o → Leaves said x → Either M cap r x o
   either-of said x (made v) c h = success-of said v x c h

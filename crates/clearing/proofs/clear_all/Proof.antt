@@ -1,13 +1,11 @@
+-- `clearing::clear_all` meets its contract: the room as it was lent, then call by call. Assumes nothing.
 use mathlib.Core.Path.{refl}
 use borrow.Author.Needs.{needs}
 use Rattle.clearing.proofs.clear_all.Statement.{statement}
 use Rattle.clearing.proofs.clear_all.Tie as tie
 
-clear-floats-requires : tie.Need-clear-floats-requires
-clear-floats-requires c κs = search needs
-
-clear-floats-requires-2 : tie.Need-clear-floats-requires-2
-clear-floats-requires-2 c κs = search needs
+clear-numbers-requires : tie.Need-clear-numbers-requires
+clear-numbers-requires c κs = search needs
 
 clear-structure-requires : tie.Need-clear-structure-requires
 clear-structure-requires c κs = search needs
@@ -49,8 +47,8 @@ same-length-7 c =
 
 same-length-8 : tie.Need-same-length-8
 same-length-8 c =
-    let clear-floats′ = c .before .before .before .before .before .before .before .before .before .before .before .before .before .before .before .before .before .before .before .before .before .before .before .before .before .before .before .before .before .before .before .before .before .clear-floats in
-    clear-floats′ .kept .0
+    let clear-numbers′ = c .before .before .before .before .before .before .before .before .before .before .before .before .before .before .before .before .before .before .before .before .before .before .before .before .before .before .before .before .before .before .before .clear-numbers in
+    clear-numbers′ .kept .0
 
 same-length-9 : tie.Need-same-length-9
 same-length-9 c =
@@ -64,22 +62,20 @@ same-length-10 c =
 
 same-length-11 : tie.Need-same-length-11
 same-length-11 c =
-    let clear-floats2′ = c .before .before .before .before .before .before .before .before .before .before .before .before .before .before .before .before .before .before .before .before .before .before .before .before .before .before .before .before .before .clear-floats2 in
-    clear-floats2′ .kept .0
+    let clear-numbers′ = c .before .before .before .before .before .before .before .before .before .before .before .before .before .before .before .before .before .before .before .before .before .before .before .before .before .before .before .before .before .before .before .clear-numbers in
+    clear-numbers′ .kept .1 .0
 
 returns : tie.Need-returns
 returns c =
     let clear-structure′ = c .before .before .before .before .before .before .before .before .before .before .before .before .before .before .before .before .before .clear-structure in
-    let clear-floats′ = c .before .before .before .before .before .before .before .before .before .before .before .before .before .before .before .before .before .before .before .before .before .before .before .before .before .before .before .before .before .before .before .before .before .clear-floats in
-    let clear-floats2′ = c .before .before .before .before .before .before .before .before .before .before .before .before .before .before .before .before .before .before .before .before .before .before .before .before .before .before .before .before .before .clear-floats2 in
-    (clear-structure′ .ensures, ((clear-floats′ .ensures, clear-floats2′ .ensures), refl))
+    let clear-numbers′ = c .before .before .before .before .before .before .before .before .before .before .before .before .before .before .before .before .before .before .before .before .before .before .before .before .before .before .before .before .before .before .before .clear-numbers in
+    (clear-structure′ .ensures, (clear-numbers′ .ensures, refl))
 
 pub clear-all-spec : {M : Type 1} → statement M
 clear-all-spec =
     tie.close
     (tie.spec
-    clear-floats-requires
-    clear-floats-requires-2
+    clear-numbers-requires
     clear-structure-requires
     same-length
     same-length-2
