@@ -4,15 +4,9 @@ use mathlib.Core.List.{List}
 use Prim.Native.Nat.{ℕ}
 use lib.Ieee.{Float}
 use Rattle.statement.specs.Calls.{Settled}
-use Rattle.statement.specs.declared.Answer.the-variants.{Accepted}
 use Rattle.statement.specs.declared.Outcome.{Outcome}
 use Rattle.statement.specs.declared.Room.{Room}
-use Rattle.survey.specs.Settles.{Settles, Fills}
-
--- what an accepted factor leaves before the scratch is cleared
-pub record FactorFills (said : Settled) (x : Outcome) (permutation firsts starts groups tasks top nine : List ℕ) (ten : List (List ℕ)) (values : List Float) : Type 0 where
-  pub structure : Fills said x permutation firsts starts groups tasks top nine ten
-  pub eleven : x .answer ≡ Accepted → values ≡ said .areas .values
+use Rattle.survey.specs.Settles.{Settles}
 
 -- what factor leaves
 pub record FactorSettles (said : Settled) (x : Outcome) (permutation firsts starts groups tasks top words : List ℕ) (floats : List Float) (nine : List ℕ) (ten : List (List ℕ)) (values : List Float) : Type 0 where

@@ -1,14 +1,14 @@
--- `factor::factor_in` meets its contract: call by call. Assumes nothing.
+-- `factoring::factor_in` meets its contract: call by call. Assumes nothing.
 use mathlib.Core.Path.{sym, _∙_}
 use Rattle.statement.specs.Input.{matrix}
 use Rattle.room.proofs.Short.{accepted-first}
 use Rattle.survey.proofs.Zeros.{zeros-length}
 use Rattle.survey.proofs.Asking.{split-ready, split-given}
-use Rattle.factor.proofs.Handing.{structured, numeric-room}
-use Rattle.factor.proofs.Outcomes.{refused-early, refused-late, fills-accepted}
+use Rattle.factoring.proofs.Handing.{structured, numeric-room}
+use Rattle.factoring.proofs.Outcomes.{refused-early, refused-late, fills-accepted}
 use borrow.Author.Needs.{needs}
-use Rattle.factor.proofs.factor_in.Statement.{statement}
-use Rattle.factor.proofs.factor_in.Tie as tie
+use Rattle.factoring.proofs.factor_in.Statement.{statement}
+use Rattle.factoring.proofs.factor_in.Tie as tie
 
 survey-requires : tie.Need-survey-requires
 survey-requires c κs = search needs
