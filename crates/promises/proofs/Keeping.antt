@@ -21,6 +21,7 @@ use Rattle.statement.specs.Run.{pass}
 use Rattle.statement.specs.Answers.{number}
 use Rattle.statement.specs.Areas.{held}
 use Rattle.statement.specs.Calls.{analysis, Settled, settled, recordOf, areasOf, orderOf, stopOf, stopped, factorNeeds, factorLater, factorFault, factor}
+use Rattle.statement.specs.Solve.{factoredIn}
 use Rattle.statement.specs.Demands.{Such, Names, Obeys, Completed, Demand3, X, S, N, A}
 use Rattle.statement.specs.Demands as demands
 use Rattle.statement.specs.declared.Answer.the-variants.{Accepted}
@@ -33,8 +34,9 @@ use Rattle.statement.specs.declared.Stop.the-variants.{End, After}
 use Rattle.laws.specs.Given.{Ordered}
 use Rattle.laws.proofs.DemandThree.{demand-three}
 use Rattle.laws.proofs.Given.{factor-given}
+use Rattle.laws.proofs.Solvable.{accepted-solvable}
 use Rattle.laws.proofs.Stages.{short-passed}
-use Rattle.promises.specs.Promises.{Left, Leaves, Call, Numbers, Whole, inEleven, Eleven, Success, Failure, Either, Stopped, Kept, DemandThree, OnSuccess}
+use Rattle.promises.specs.Promises.{Left, Leaves, Call, readBy, Numbers, Whole, inEleven, Eleven, Success, Failure, Either, Stopped, Kept, DemandThree, OnSuccess}
 
 -- ---- two that leave what is said leave the same
 
@@ -126,13 +128,18 @@ module _ (M : Matrix) (cap : ℕ) (r : Room) where
   unfolding areasOf
   values-of v = refl
 
-  success-of : (said : Settled) (v : List Float) (x : Left) → Completed M cap r said v → Leaves said x → Success M cap r x × (inEleven M cap r x ≡ v)
-  success-of said v x c h =
+  read-of : (said : Settled) (x : Left) → Leaves said x → readBy x ≡ factoredIn (said .areas)
+  unfolding factoredIn
+  read-of said x h = λ i. record { permutation = h .structure .one i; firsts = h .structure .two i; starts = h .structure .three i; rows = h .structure .nine-holds i; values = h .eleven i }
+
+  success-of : Such M cap r → (said : Settled) (v : List Float) (x : Left) → Completed M cap r said v → Leaves said x → Success M cap r x × (inEleven M cap r x ≡ v)
+  success-of such said v x c h =
       let is = h .eleven ∙ ap (λ a. a .values) (c .areas) ∙ values-of v in
       let z = eleven-of v x (c .filled) is in (
         record {
           answer = ap (λ o. o .answer) (h .structure .out) ∙ c .answer;
           summary = ap (λ o. o .«record») (h .structure .out) ∙ c .summary;
+          taken = rw (h .structure .out, read-of said x h) (accepted-solvable M cap r such said v c);
           finite = all-finite (r .values) v (x .values) is (c .finite);
           eleven = z .1;
           places = c .places;
@@ -141,9 +148,9 @@ module _ (M : Matrix) (cap : ℕ) (r : Room) where
         z .0,
       )
 
-  either-of : (said : Settled) (x : Left) (o : Out) → demands.Either M cap r said o → Leaves said x → Either M cap r x o
-  either-of said x (made v) c h = success-of said v x c h
-  either-of said x (broke c) f h = record { leaves = said-as x (λ i. record { returned = record { answer = f .answer i; «record» = f .summary i }; areas = f .areas i }) h; meets = f .meets }
+  either-of : Such M cap r → (said : Settled) (x : Left) (o : Out) → demands.Either M cap r said o → Leaves said x → Either M cap r x o
+  either-of such said x (made v) c h = success-of such said v x c h
+  either-of such said x (broke c) f h = record { leaves = said-as x (λ i. record { returned = record { answer = f .answer i; «record» = f .summary i }; areas = f .areas i }) h; meets = f .meets }
 
   -- ---- a list
 
@@ -155,7 +162,7 @@ module _ (M : Matrix) (cap : ℕ) (r : Room) where
     ended e x w h = said-as x (stop-as Listed l e End w) h
 
     either : (e : Stop) (x : Left) → Whole M cap r e → Call M cap Listed l e r x → Either M cap r x (pass (S M cap r) (A M cap r) (N M cap r))
-    either e x w h = either-of _ x (pass (S M cap r) (A M cap r) (N M cap r)) (three .either) (ended e x w h)
+    either e x w h = either-of such _ x (pass (S M cap r) (A M cap r) (N M cap r)) (three .either) (ended e x w h)
 
     same : (beside : List ℕ) (d e : Stop) (x y : Left) → Whole M cap r d → Whole M cap r e → Call M cap Plain beside d r x → Call M cap Listed l e r y → x ≡ y
     same beside d e x y w u p q = one-left _ x y (said-as x (stop-as Plain beside d End w ∙ beside-as beside End ∙ sym (three .same)) p) (ended e y u q)

@@ -17,6 +17,7 @@ use Rattle.statement.specs.Rules.{Out, made, broke, step}
 use Rattle.statement.specs.Run.{pass}
 use Rattle.statement.specs.Record.{emptyRecord}
 use Rattle.statement.specs.Calls.{analysis, Settled, recordOf, cleared, stopOf, stopped, factor}
+use Rattle.statement.specs.Solve.{FactorAreas, solvable}
 use Rattle.statement.specs.Demands.{Such, Names, Obeys, Breaks, X, S, N, A}
 use Rattle.statement.specs.declared.Answer.the-variants.{Accepted, WrongPivot}
 use Rattle.statement.specs.declared.Outcome.{Outcome}
@@ -50,6 +51,10 @@ Leaves said x = FactorSettles said (x .outcome) (x .permutation) (x .firsts) (x 
 abbrev pub Call : Matrix → ℕ → Order → List ℕ → Stop → Room → Left → Type 0
 Call M cap o l e r x = Leaves (factor M cap o l e r) x
 
+-- the areas that solve and the view read
+abbrev pub readBy : Left → FactorAreas
+readBy x = record { permutation = x .permutation; firsts = x .firsts; starts = x .starts; rows = x .rows; values = x .values }
+
 -- every value is an f64
 abbrev pub Numbers : Matrix → Type 0
 Numbers M = (p : ℕ) → T (fits binary64 (getD (M .values) p +0))
@@ -68,10 +73,12 @@ module _ (M : Matrix) (cap : ℕ) (r : Room) where
     pub filled : length (inEleven x) ≡ entries (pattern M) (M .n)
     pub after : drop (entries (pattern M) (M .n)) (x .values) ≡ replicate (r .values - entries (pattern M) (M .n)) +0
 
-  -- a full record; every value finite; supernode K's column c has the rows that elimination fills, and meets the entry rules with its pivot's root
+  -- a full record, which solve and the view take; every value finite; supernode K's column c has the rows that elimination fills, and meets the entry
+  -- rules with its pivot's root
   pub record Success (x : Left) : Type 0 where
     pub answer : x .outcome .answer ≡ Accepted
     pub summary : x .outcome .«record» ≡ recordOf Full M (X M cap r)
+    pub taken : solvable (x .outcome .«record») (readBy x) ≡ true
     pub finite : (p : ℕ) → p < length (x .values) → finite (getD (x .values) p nan) ≡ true
     pub eleven : Eleven x
     pub places : (K c : ℕ) → K < N M cap r → c < width (S M cap r) K → drop c (rowsOf (S M cap r) K) ≡ rowsOfColumn (X M cap r .pattern) (M .n) (first (S M cap r) K + c)
