@@ -2,6 +2,5 @@ pub mod Floats
 pub mod Rising
 pub mod Columns
 pub mod Starts
-pub mod Pivots
 pub mod Finds
 pub mod Denses

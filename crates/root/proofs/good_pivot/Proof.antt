@@ -1,8 +1,8 @@
--- `panels::good_pivot` meets its contract. By cases on finiteness. Assumes nothing.
+-- `root::good_pivot` meets its contract. By cases on finiteness. Assumes nothing.
 use borrow.Author.Needs.{needs}
-use Rattle.panels.proofs.Pivots.{test-yes, test-no}
-use Rattle.panels.proofs.good_pivot.Statement.{statement}
-use Rattle.panels.proofs.good_pivot.Tie as tie
+use Rattle.root.proofs.Pivots.{test-yes, test-no}
+use Rattle.root.proofs.good_pivot.Statement.{statement}
+use Rattle.root.proofs.good_pivot.Tie as tie
 
 is-finite-requires : tie.Need-is-finite-requires
 is-finite-requires c κs = search needs
