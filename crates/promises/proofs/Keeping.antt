@@ -14,15 +14,15 @@ use lib.Ieee.{Float, nan}
 use Rattle.statement.specs.Lists.{has}
 use Rattle.statement.specs.Input.{Matrix, pattern, +0}
 use Rattle.statement.specs.Fill.{entries}
-use Rattle.statement.specs.Shape.{supernodes, width, stretch}
+use Rattle.statement.specs.Shape.{supernodes, first, width, height, trapezoid, stretch}
 use Rattle.statement.specs.Root.{finite}
 use Rattle.statement.specs.Rules.{Out, made, broke}
 use Rattle.statement.specs.Run.{pass}
 use Rattle.statement.specs.Answers.{number}
 use Rattle.statement.specs.Areas.{held}
 use Rattle.statement.specs.Calls.{analysis, Settled, settled, recordOf, areasOf, orderOf, stopOf, stopped, factorNeeds, factorLater, factorFault, factor}
-use Rattle.statement.specs.Solve.{factoredIn}
-use Rattle.statement.specs.Demands.{Such, Names, Obeys, Completed, Demand3, X, S, N, A}
+use Rattle.statement.specs.Solve.{factoredIn, solvable, view}
+use Rattle.statement.specs.Demands.{Such, Names, Obeys, Completed, Demand3, S, N, A}
 use Rattle.statement.specs.Demands as demands
 use Rattle.statement.specs.declared.Answer.the-variants.{Accepted}
 use Rattle.statement.specs.declared.Order.{Order}
@@ -36,7 +36,8 @@ use Rattle.laws.proofs.DemandThree.{demand-three}
 use Rattle.laws.proofs.Given.{factor-given}
 use Rattle.laws.proofs.Solvable.{accepted-solvable}
 use Rattle.laws.proofs.Stages.{short-passed}
-use Rattle.promises.specs.Promises.{Left, Leaves, Call, readBy, Numbers, Whole, inEleven, Eleven, Success, Failure, Either, Stopped, Kept, DemandThree, OnSuccess}
+use Rattle.promises.proofs.Viewing.{view-of}
+use Rattle.promises.specs.Promises.{Left, Leaves, Call, readBy, Whole, inEleven, Eleven, Success, Failure, Either, Stopped, DemandThree, OnSuccess}
 
 -- ---- two that leave what is said leave the same
 
@@ -132,6 +133,14 @@ module _ (M : Matrix) (cap : ℕ) (r : Room) where
   unfolding factoredIn
   read-of said x h = λ i. record { permutation = h .structure .one i; firsts = h .structure .two i; starts = h .structure .three i; rows = h .structure .nine-holds i; values = h .eleven i }
 
+  taken-of : Such M cap r → (said : Settled) (v : List Float) (x : Left) → Completed M cap r said v → Leaves said x → solvable (x .outcome .«record») (readBy x) ≡ true
+  taken-of such said v x c h = rw (h .structure .out, read-of said x h) (accepted-solvable M cap r such said v c)
+
+  view-said : (such : Such M cap r) (said : Settled) (v : List Float) (x : Left) → Completed M cap r said v → Leaves said x → (K c : ℕ) → K < N M cap r → c < width (S M cap r) K → view (x .outcome .«record») (readBy x) (record { 0 = first (S M cap r) K + c }) ≡
+      take (height (S M cap r) K - c) (drop (trapezoid (height (S M cap r) K) c) (stretch (S M cap r) (inEleven M cap r x) K))
+  unfolding analysis areasOf
+  view-said such said v x c h = view-of M (such .well) r (x .outcome .«record») (readBy x) (ap (λ o. o .«record») (h .structure .out) ∙ c .summary) (h .structure .two ∙ ap (λ a. a .firsts) (c .areas)) (h .structure .three ∙ ap (λ a. a .starts) (c .areas)) (h .structure .nine-holds ∙ ap (λ a. a .rows) (c .areas)) (taken-of such said v x c h)
+
   success-of : Such M cap r → (said : Settled) (v : List Float) (x : Left) → Completed M cap r said v → Leaves said x → Success M cap r x × (inEleven M cap r x ≡ v)
   success-of such said v x c h =
       let is = h .eleven ∙ ap (λ a. a .values) (c .areas) ∙ values-of v in
@@ -139,11 +148,12 @@ module _ (M : Matrix) (cap : ℕ) (r : Room) where
         record {
           answer = ap (λ o. o .answer) (h .structure .out) ∙ c .answer;
           summary = ap (λ o. o .«record») (h .structure .out) ∙ c .summary;
-          taken = rw (h .structure .out, read-of said x h) (accepted-solvable M cap r such said v c);
+          taken = taken-of such said v x c h;
           finite = all-finite (r .values) v (x .values) is (c .finite);
           eleven = z .1;
           places = c .places;
           rules = λ K k a b. rw (z .0) (c .rules K k a b);
+          viewed = view-said such said v x c h;
         },
         z .0,
       )

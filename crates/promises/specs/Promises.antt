@@ -11,13 +11,13 @@ use Rattle.statement.specs.Lists.{has}
 use Rattle.statement.specs.Input.{Matrix, pattern, +0}
 use Rattle.statement.specs.Fill.{rowsOfColumn, entries}
 use Rattle.statement.specs.Postorder.{toOriginal}
-use Rattle.statement.specs.Shape.{first, width, rowsOf, stretch, zeros}
+use Rattle.statement.specs.Shape.{first, width, height, rowsOf, trapezoid, stretch, zeros}
 use Rattle.statement.specs.Root.{finite}
 use Rattle.statement.specs.Rules.{Out, made, broke, step}
 use Rattle.statement.specs.Run.{pass}
 use Rattle.statement.specs.Record.{emptyRecord}
 use Rattle.statement.specs.Calls.{analysis, Settled, recordOf, cleared, stopOf, stopped, factor}
-use Rattle.statement.specs.Solve.{FactorAreas, solvable}
+use Rattle.statement.specs.Solve.{FactorAreas, solvable, view}
 use Rattle.statement.specs.Demands.{Such, Names, Obeys, Breaks, X, S, N, A}
 use Rattle.statement.specs.declared.Answer.the-variants.{Accepted, WrongPivot}
 use Rattle.statement.specs.declared.Outcome.{Outcome}
@@ -83,6 +83,9 @@ module _ (M : Matrix) (cap : ℕ) (r : Room) where
     pub eleven : Eleven x
     pub places : (K c : ℕ) → K < N M cap r → c < width (S M cap r) K → drop c (rowsOf (S M cap r) K) ≡ rowsOfColumn (X M cap r .pattern) (M .n) (first (S M cap r) K + c)
     pub rules : (K c : ℕ) → K < N M cap r → c < width (S M cap r) K → Obeys (S M cap r) (A M cap r) (inEleven x) K c
+    -- the view hands back that column of the supernode's stretch
+    pub viewed : (K c : ℕ) → K < N M cap r → c < width (S M cap r) K → view (x .outcome .«record») (readBy x) (record { 0 = first (S M cap r) K + c }) ≡
+        take (height (S M cap r) K - c) (drop (trapezoid (height (S M cap r) K) c) (stretch (S M cap r) (inEleven x) K))
 
   -- number 9 for the factor column c, the one that a pass in postorder meets first: an empty record, and zeros in every area
   pub record Failure (x : Left) (c : ℕ) : Type 0 where
