@@ -5,6 +5,7 @@ ghost use Rattle.statement.specs.Input.{+0};
 ghost use Rattle.clearing.specs.Zeroed.{noTriple, Zeroed};
 use areas::clear_floats;
 use areas::clear_words;
+use statement::Room;
 
 // Every update becomes three zeros.
 pub fn clear_updates(s: &mut [[usize; 3]])
@@ -42,7 +43,15 @@ pub fn clear_structure(
     clear_updates(updates);
 }
 
-// All eleven: those of the structure, the scratch floats and the values.
+// Areas 8 and 11: the scratch floats and the values.
+fn clear_numbers(floats: &mut [f64], values: &mut [f64])
+    ensures { λ _. ⌜ (now (floats .exit) ≡ replicate (length (now (floats .entry))) +0) × (now (values .exit) ≡ replicate (length (now (values .entry))) +0) ⌝ }
+{
+    clear_floats(floats);
+    clear_floats(values);
+}
+
+// All eleven: those of the structure, the scratch floats and the values; and the room that they give.
 pub fn clear_all(
     permutation: &mut [usize],
     firsts: &mut [usize],
@@ -55,12 +64,25 @@ pub fn clear_all(
     rows: &mut [usize],
     updates: &mut [[usize; 3]],
     values: &mut [f64],
-)
+) -> Room
     ensures { λ _. ⌜ Zeroed (now (permutation .entry)) (now (firsts .entry)) (now (starts .entry)) (now (groups .entry)) (now (tasks .entry)) (now (top .entry)) (now (words .entry)) (now (rows .entry)) (now (updates .entry)) (now (permutation .exit)) (now (firsts .exit)) (now (starts .exit)) (now (groups .exit)) (now (tasks .exit)) (now (top .exit)) (now (words .exit)) (now (rows .exit)) (now (updates .exit)) ⌝ }
     ensures { λ _. ⌜ (now (floats .exit) ≡ replicate (length (now (floats .entry))) +0) × (now (values .exit) ≡ replicate (length (now (values .entry))) +0) ⌝ }
+    ensures { λ r. ⌜ r ≡ record { permutation = length (now (permutation .entry)); firsts = length (now (firsts .entry)); starts = length (now (starts .entry)); groups = length (now (groups .entry)); tasks = length (now (tasks .entry)); top = length (now (top .entry)); words = length (now (words .entry)); floats = length (now (floats .entry)); rows = length (now (rows .entry)); updates = length (now (updates .entry)); values = length (now (values .entry)) } ⌝ }
 {
-    clear_floats(floats);
-    clear_floats(values);
+    let room = Room {
+        permutation: permutation.len(),
+        firsts: firsts.len(),
+        starts: starts.len(),
+        groups: groups.len(),
+        tasks: tasks.len(),
+        top: top.len(),
+        words: words.len(),
+        floats: floats.len(),
+        rows: rows.len(),
+        updates: updates.len(),
+        values: values.len(),
+    };
+    clear_numbers(floats, values);
     clear_structure(
         permutation,
         firsts,
@@ -72,4 +94,5 @@ pub fn clear_all(
         rows,
         updates,
     );
+    room
 }

@@ -1,4 +1,1 @@
-pub mod Eliminating
-pub mod Ordering
 pub mod Outcomes
-pub mod Handing

@@ -1,7 +1,9 @@
-// Number 8: the order list and the stop count.
+// Number 8: the order list and the stop count, by which a factor is partial or full.
 ghost use mathlib.Core.Path.{_≡_};
+ghost use mathlib.Core.Bool.{cond};
 ghost use mathlib.Core.Logic.{_≢_};
 ghost use Prim.Native.Nat.{ℕ, suc, _-_, _≤_, _<_};
+ghost use lib.Dec.{ltb};
 ghost use lib.ListN.{length, getD, set};
 ghost use Rattle.statement.specs.Lists.{least};
 ghost use Rattle.statement.specs.Shape.{Shape, supernodes};
@@ -11,6 +13,7 @@ ghost use Rattle.statement.specs.Calls.{orderOf, stopOf, wrongPosition};
 ghost use Rattle.order.specs.Waiting.{Above, Of, wrongAt};
 use statement::Answer;
 use statement::Order;
+use statement::Stage;
 use statement::Stop;
 use supernodes::children;
 
@@ -22,6 +25,16 @@ pub fn stop_at(ns: usize, stop: Stop) -> usize
         Stop::End => ns,
         Stop::After(t) => t,
     }
+}
+
+// A factor that stops before the last supernode is partial.
+pub fn stage(ns: usize, stop: Stop) -> Stage
+    ensures { λ r. ⌜ ((S : Shape) → supernodes S ≡ ns → r ≡ cond (ltb (stopOf S stop) ns) Stage.Partial Stage.Full) ⌝ }
+{
+    if stop_at(ns, stop) < ns {
+        return Stage::Partial;
+    }
+    Stage::Full
 }
 
 // Supernode j is named: its count is never 0 again, and its parent waits for one less.

@@ -7,7 +7,7 @@ ghost use lib.ListN.{getD, length, take};
 ghost use lib.Ieee.{nan, binary64, add, sub, mul, div};
 ghost use Rattle.statement.specs.Input.{+0};
 ghost use Rattle.statement.specs.Shape.{trapezoid};
-ghost use Rattle.statement.specs.Rules.{dot, singly, passes, panel};
+ghost use Rattle.statement.specs.Rules.{dot, singly, panel};
 ghost use Rattle.laws.specs.Lower.{among, lowerValue, Lower};
 ghost use Rattle.areas.specs.Touch.{Touched};
 ghost use Rattle.panel.specs.View.{cell};
@@ -130,17 +130,6 @@ fn reduce(own: &mut [f64], work: &mut [f64], m: usize, c: usize)
     singles(own, m, c / 64 * 64, c);
 }
 
-// Whether d passes as the pivot of a column whose own diagonal entry is a.
-fn good_pivot(a: f64, d: f64) -> bool
-    ensures { λ r. ⌜ r ≡ passes a d ⌝ }
-{
-    if root::is_finite(d) {
-        0.0000000001 * root::abs(a) < d
-    } else {
-        false
-    }
-}
-
 // Column c of a trapezoid: reduced, tested, and divided by the root of its pivot.
 fn column(own: &mut [f64], work: &mut [f64], m: usize, c: usize, a: f64) -> bool
     requires { ⌜ (c < m) × (m ≤ 32768) × (trapezoid m c + (m - c) ≤ length (now own)) × (m ≤ length (now work)) ⌝ }
@@ -148,7 +137,7 @@ fn column(own: &mut [f64], work: &mut [f64], m: usize, c: usize, a: f64) -> bool
 {
     reduce(own, work, m, c);
     let d = panel_entry(own, m, c, c);
-    if good_pivot(a, d) {
+    if root::good_pivot(a, d) {
         let at = column_start(m, c);
         let r = root::root(d);
         own[at] = r;

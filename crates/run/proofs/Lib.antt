@@ -1,4 +1,3 @@
-pub mod Offs
 pub mod Turns
 pub mod States
 pub mod Runs

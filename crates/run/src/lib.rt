@@ -1,41 +1,15 @@
-// The run of supernodes in order: where their stretches start, and one step after the other.
+// The run of supernodes in order: one step after the other.
 ghost use mathlib.Core.Path.{_≡_};
 ghost use mathlib.Core.Bool.{false, cond};
-ghost use mathlib.Core.List.{_++_};
-ghost use Prim.Native.Nat.{ℕ, suc, _+_, _≤_, _<_, min};
+ghost use Prim.Native.Nat.{ℕ, _+_, _≤_, _<_, min};
 ghost use lib.ListN.{length, getD, set, take, drop};
 ghost use Rattle.statement.specs.Lists.{list as names};
-ghost use Rattle.statement.specs.Shape.{offset};
 ghost use Rattle.laws.specs.Lower.{lowerValue};
-ghost use Rattle.step.specs.Ready.{lent, Rows};
+ghost use Rattle.step.specs.Ready.{lent};
 ghost use Rattle.step.specs.Answer.{Stepped};
 ghost use Rattle.run.specs.Turn.{At, under, Due, Turned, Ran};
 use statement::Factored;
 use step::StepAnswer;
-
-// offs[K] is where the stretch of supernode K starts in the values.
-pub fn offsets(
-    ns: usize,
-    n: usize,
-    first: &[usize],
-    starts: &[usize],
-    rows: &[usize],
-    offs: &mut [usize],
-)
-    requires { ⌜ Rows (lent n (now first) (now starts) (now rows)) ns ⌝ }
-    requires { ⌜ (ns ≤ length (now offs)) × (ns ≤ 32768) ⌝ }
-    ensures { λ _. ⌜ now (offs .exit) ≡ names (offset (lent n (now (first .entry)) (now (starts .entry)) (now (rows .entry)))) ns ++ drop ns (now (offs .entry)) ⌝ }
-{
-    let mut k = 0;
-    let mut at = 0;
-    while k < ns {
-        offs[k] = at;
-        let w = first[k + 1] - first[k];
-        let m = starts[k + 1] - starts[k];
-        at = at + panel::column_start(m, w);
-        k += 1;
-    }
-}
 
 // The step of the supernode j. In the words: a flag for each supernode, then the positions of rows from n + 1 on, and from 2n + 1 on what is only
 // read: the offsets at ob, and A's lower columns, their starts at ab and their rows at rb.

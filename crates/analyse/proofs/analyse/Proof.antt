@@ -4,6 +4,7 @@ use Rattle.survey.proofs.Clearing.{blank-of}
 use Rattle.room.proofs.Short.{accepted-first}
 use Rattle.statement.specs.Input.{matrix}
 use mathlib.Core.Path.{refl, sym, _∙_}
+use native.Mathlib.Omega.{arith}
 use borrow.Author.Needs.{needs}
 use Rattle.analyse.proofs.analyse.Statement.{statement}
 use Rattle.analyse.proofs.analyse.Tie as tie
@@ -130,16 +131,17 @@ same-length-14 c =
 
 same-length-15 : tie.Need-same-length-15
 same-length-15 c =
+    let clear-words′ = c .before .before .clear-words in
     let analyse-in′ = c .before .before .before .before .before .before .before .before .before .before .before .before .before .before .before .before .before .before .before .before .before .before .before .analyse-in in
     let clear-structure′ = c .before .before .before .before .before .before .before .before .before .before .before .before .before .before .before .before .before .before .before .before .before .before .before .before .before .before .before .before .before .before .before .before .before .before .before .before .before .before .before .before .before .before .before .before .before .before .before .before .before .before .clear-structure in
-    analyse-in′ .kept .1 .1 .1 .1 .1 .1 .1 .1 .1 .1 .1 .0 ∙ clear-structure′ .kept .1 .1 .1 .1 .1 .0
+    omega (arith, clear-words′ .kept .0, analyse-in′ .kept .1 .1 .1 .1 .1 .1 .1 .1 .1 .1 .1 .0, analyse-in′ .kept .1 .1 .1 .1 .1 .1 .1 .1 .1 .1 .1 .1 .0, clear-structure′ .kept .1 .1 .1 .1 .1 .0, clear-structure′ .kept .1 .1 .1 .1 .1 .1 .0)
 
 same-length-16 : tie.Need-same-length-16
 same-length-16 c =
     let clear-words′ = c .before .before .clear-words in
     let analyse-in′ = c .before .before .before .before .before .before .before .before .before .before .before .before .before .before .before .before .before .before .before .before .before .before .before .analyse-in in
     let clear-structure′ = c .before .before .before .before .before .before .before .before .before .before .before .before .before .before .before .before .before .before .before .before .before .before .before .before .before .before .before .before .before .before .before .before .before .before .before .before .before .before .before .before .before .before .before .before .before .before .before .before .before .before .clear-structure in
-    clear-words′ .kept .0 ∙ analyse-in′ .kept .1 .1 .1 .1 .1 .1 .1 .1 .1 .1 .1 .1 .0 ∙ clear-structure′ .kept .1 .1 .1 .1 .1 .1 .0
+    omega (arith, clear-words′ .kept .0, analyse-in′ .kept .1 .1 .1 .1 .1 .1 .1 .1 .1 .1 .1 .0, analyse-in′ .kept .1 .1 .1 .1 .1 .1 .1 .1 .1 .1 .1 .1 .0, clear-structure′ .kept .1 .1 .1 .1 .1 .0, clear-structure′ .kept .1 .1 .1 .1 .1 .1 .0)
 
 same-length-17 : tie.Need-same-length-17
 same-length-17 c =

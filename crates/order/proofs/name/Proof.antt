@@ -29,7 +29,7 @@ slice-read-left : tie.Need-slice-read-left
 slice-read-left c = search needs
 
 sub-left : tie.Need-sub-left
-sub-left c = let b = c .before .before in rw (getD-set-other (b .args .left .now) (b .args .j) _ (b .args .ns + 1) 0 (b .pre .1 .1)) (b .pre .1 .2)
+sub-left c = let b = c .before .before in rw (getD-set-other (b .args .left .now) (b .args .j) _ _ 0 (b .pre .1 .1)) (b .pre .1 .2)
 
 mul-left-3 : tie.Need-mul-left-3
 mul-left-3 c = omega arith
@@ -41,7 +41,7 @@ same-length : tie.Need-same-length
 same-length c = search needs
 
 returns : tie.Need-returns
-returns c = let b = c .before .before in rw (getD-set-other (b .args .left .now) (b .args .j) _ (b .args .ns + 1) 0 (b .pre .1 .1), add-one)
+returns c = let b = c .before .before in rw (getD-set-other (b .args .left .now) (b .args .j) _ _ 0 (b .pre .1 .1), add-one)
 
 pub name-spec : {M : Type 1} → statement M
 name-spec =

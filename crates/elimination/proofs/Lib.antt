@@ -1,0 +1,2 @@
+pub mod Eliminating
+pub mod Ordering

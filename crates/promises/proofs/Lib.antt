@@ -1,0 +1,2 @@
+pub mod Viewing
+pub mod Keeping

@@ -1,0 +1,1 @@
+// What any call of factor leaves, told from its contract alone: proofs only.
