@@ -1,4 +1,4 @@
-// The numbers of a line.
+// What the programs share whose answers are held to the Rust: the numbers of a line, and a sum by which lists are compared.
 ghost use Prim.Native.Nat.{_≤_, _<_};
 ghost use lib.ListN.{length};
 
@@ -27,14 +27,14 @@ fn digit(b: u8) -> usize
     (b - b'0') as usize
 }
 
-// The number whose digits begin at a place; of more than seven digits it takes the first seven.
+// The number whose digits begin at a place; of one that does not fit it takes the first digits.
 fn word_at(text: &[u8], at: usize) -> Word
     requires { ⌜ at ≤ length (now text) ⌝ }
     ensures { λ r. ⌜ (at ≤ r .end) × (r .end ≤ length (now (text .entry))) ⌝ }
 {
     let mut value = 0;
     let mut i = at;
-    while i < text.len() && digit(text[i]) < 10 && value < 1000000 {
+    while i < text.len() && digit(text[i]) < 10 && value < 1844674407370955161 {
         value = value * 10 + digit(text[i]);
         i += 1;
     }
@@ -68,4 +68,9 @@ pub fn numbers(text: &[u8], at: usize, to: &mut [usize]) -> Line
         count: 0,
         end: text.len(),
     }
+}
+
+// The sum with one word more.
+pub fn added(h: u64, x: u64) -> u64 {
+    ((h << 1) | (h >> 63)) ^ x
 }
