@@ -6,9 +6,9 @@
 //   0 n a, the n + 1 starts, the a rows, the bits of the a values: a matrix
 //   1 n: dense, 1024.0 on the diagonal and 1.0 elsewhere; 2 n: dense, A(i,k) = 1 / (1 + i + 3k), diagonal 2 + k / 8
 //   3 x: run the last matrix in the plain order; 4 x, a list: in the list's order; x is 0 for the end, t + 1 for a stop after t
-// STDOUT has a line for each run, hexadecimal: the answer's number, its two details, the state (0 empty, 2 partial, 3 full), supernodes,
+// STDOUT has a line for each run: the answer's number, its two details, the state (0 empty, 2 partial, 3 full), supernodes,
 // entries, the sum of the values' bits; the number that solve answers, and the sum of the bits of b afterwards, b(i) = i + 1.
-// The sum: h = 0; for each word x: h = rotate_left(h, 1) ^ x. Every NaN counts as 7FF8000000000000.
+// The sum, in hexadecimal: h = 0; for each word x: h = rotate_left(h, 1) ^ x. Every NaN counts as 7ff8000000000000.
 //
 // A complete run is Factor::new and Factor::solve. A stopped one has the stretches of the supernodes that it names out of that
 // factor, and zeros. Where Factor::new fails it goes by document 01's rule for a stopped run, with the Rust's own step:
@@ -370,7 +370,7 @@ fn known(m: &UpperColumns) -> Known {
 }
 
 fn line(number: usize, detail: usize, state: usize, supernodes: usize, entries: usize, l: u64, solve: usize, x: u64) -> String {
-    format!("{number:02X} {detail:08X} {:08X} {state:X} {supernodes:04X} {entries:04X} {l:016X} {solve:02X} {x:016X}\n", 0)
+    format!("factor {number} {detail} 0 {state} {supernodes} {entries} {l:016x} solve {solve} {x:016x}\n")
 }
 
 fn answer(k: &Known, list: Option<&[usize]>, stop: Option<usize>) -> String {
@@ -423,11 +423,8 @@ impl Lists {
         }
         self.stdin += "\n";
         let a = answer(k, list, stop);
-        let number = match (&a[..2], &a[21..22]) {
-            ("00", "2") => "0 partial".to_string(),
-            ("00", _) => "0 full".to_string(),
-            (x, _) => usize::from_str_radix(x, 16).unwrap().to_string(),
-        };
+        let w: Vec<&str> = a.split(' ').collect();
+        let number = w[1].to_string() + if w[4] == "2" { " partial" } else { "" };
         *self.counts.get_mut(kind).unwrap().1.entry(number).or_default() += 1;
         self.stdout += &a;
     }

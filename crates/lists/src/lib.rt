@@ -1,6 +1,7 @@
-// What the programs share whose answers are held to the Rust: the numbers of a line, and a sum by which lists are compared.
+// What the programs share that run lists: the numbers of a line, a sum by which two lists are compared, and what is written.
 ghost use Prim.Native.Nat.{_≤_, _<_};
 ghost use lib.ListN.{length};
+use libc::STDOUT_FILENO;
 
 // A number, and where its digits end.
 struct Word {
@@ -73,4 +74,20 @@ pub fn numbers(text: &[u8], at: usize, to: &mut [usize]) -> Line
 // The sum with one word more.
 pub fn added(h: u64, x: u64) -> u64 {
     ((h << 1) | (h >> 63)) ^ x
+}
+
+pub fn say(text: &[u8]) {
+    io::write_all(STDOUT_FILENO, text);
+}
+
+// A number with a space before it.
+pub fn say_number(x: usize) {
+    say(b" ");
+    io::print_decimal(STDOUT_FILENO, x as u64);
+}
+
+// Sixteen digits with a space before them.
+pub fn say_bits(x: u64) {
+    say(b" ");
+    io::print_hex(STDOUT_FILENO, x, 16);
 }
