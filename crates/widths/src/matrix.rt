@@ -112,7 +112,10 @@ pub fn matrix(
     if kind == 0 {
         return put_stored(line, old, starts, rows, values);
     }
-    if kind > 2 || line.len() < 2 {
+    if kind > 2 {
+        return old;
+    }
+    if line.len() < 2 {
         return old;
     }
     put_dense(kind == 2, line[1], starts, rows, values)
