@@ -1,6 +1,10 @@
 // Holds factor and solve to the Rust by bits: a line of standard input is a matrix, or a run of the last one, and a line of
 // nine numbers answers each run. tests/widths/list.rs says what the lines are, and makes the two lists. A line
 // that is no list of numbers, or has more than 4,096, ends the program.
+ghost use mathlib.Core.Path.{_≡_};
+ghost use mathlib.Core.Bool.{true};
+ghost use Prim.Native.Nat.{_≤_, _<_};
+
 mod line;
 mod matrix;
 
@@ -124,24 +128,31 @@ fn stop_of(x: usize) -> Stop {
     Stop::After(x - 1)
 }
 
+// Whether a matrix and a line are as long as what holds them.
+fn lendable(n: usize, a: usize, starts: usize, rows: usize, values: usize, line: usize) -> bool
+    ensures { λ r. ⌜ (r ≡ true → (n < starts) × (n ≤ 512) × (a ≤ rows) × (a ≤ values) × (2 ≤ line)) ⌝ }
+{
+    if n >= starts {
+        return false;
+    }
+    if n > 512 {
+        return false;
+    }
+    if a > rows {
+        return false;
+    }
+    if a > values {
+        return false;
+    }
+    line >= 2
+}
+
 // Runs the matrix as a line of the kinds 3 and 4 says: the kind, where to stop, the list.
 fn run_line(line: &[usize], size: Size, starts: &[usize], rows: &[usize], values: &[f64]) {
     let mut b = [0.0; 512];
     let n = size.n;
     let a = size.a;
-    if n >= starts.len() {
-        return;
-    }
-    if n > 512 {
-        return;
-    }
-    if a > rows.len() {
-        return;
-    }
-    if a > values.len() {
-        return;
-    }
-    if line.len() < 2 {
+    if !lendable(n, a, starts.len(), rows.len(), values.len(), line.len()) {
         return;
     }
     let kind = line[0];
