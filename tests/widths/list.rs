@@ -106,12 +106,10 @@ fn dominant(c: &mut Chance, n: usize, pattern: &[(usize, usize)], scale: f64) ->
     let mut d = vec![0.0; n];
     for &(k, i) in pattern {
         let v = c.real() * scale;
-        if p.insert((k, i), v).is_none() {
-            d[i] += v.abs();
-            d[k] += v.abs();
-        }
+        p.insert((k, i), v);
+        d[i] += v.abs();
+        d[k] += v.abs();
     }
-    // a place that came twice counts once, at most once too large
     for k in 0..n {
         p.insert((k, k), (d[k] + scale) * (1.25 + c.real() / 8.0));
     }

@@ -6,15 +6,14 @@ ghost use mathlib.Core.Bool.{true};
 ghost use Prim.Native.Nat.{_≤_, _<_};
 
 mod line;
-mod matrix;
 
 use factor::factor;
 use libc::STDIN_FILENO;
 use line::print;
 use line::sum;
 use lists::numbers;
-use matrix::Size;
-use matrix::matrix;
+use matrices::Size;
+use matrices::matrix;
 use solve::solve;
 use statement::Order;
 use statement::Outcome;

@@ -1,11 +1,11 @@
--- `widths::matrix::put_floats` is safe and ends. Assumes nothing.
+-- `matrices::put_floats` is safe and ends. Assumes nothing.
 use mathlib.Core.Path.{_≡_}
 use Prim.Native.Nat.{_-_}
 use native.Mathlib.Omega.{arith}
 use lib.ListN.{length, length-set}
 use borrow.Author.Needs.{needs}
-use Rattle.widths.proofs.matrix.put_floats.Statement.{statement}
-use Rattle.widths.proofs.matrix.put_floats.Tie as tie
+use Rattle.matrices.proofs.put_floats.Statement.{statement}
+use Rattle.matrices.proofs.put_floats.Tie as tie
 
 abbrev Inv-loop : tie.InvT-loop
 Inv-loop bits to₀ i₀ to i = length to ≡ length to₀

@@ -1,8 +1,8 @@
--- `widths::matrix::put_stored` is safe and ends: the parts of the line were tested. Assumes nothing.
+-- `matrices::put_stored` is safe and ends: the parts of the line were tested. Assumes nothing.
 use native.Mathlib.Omega.{arith}
 use borrow.Author.Needs.{needs}
-use Rattle.widths.proofs.matrix.put_stored.Statement.{statement}
-use Rattle.widths.proofs.matrix.put_stored.Tie as tie
+use Rattle.matrices.proofs.put_stored.Statement.{statement}
+use Rattle.matrices.proofs.put_stored.Tie as tie
 
 pub put-stored-spec : {M : Type 1} → statement M
 put-stored-spec =

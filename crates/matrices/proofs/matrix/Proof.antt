@@ -1,7 +1,7 @@
--- `widths::matrix::matrix` is safe and ends. Assumes nothing.
+-- `matrices::matrix` is safe and ends. Assumes nothing.
 use native.Mathlib.Omega.{arith}
-use Rattle.widths.proofs.matrix.matrix.Statement.{statement}
-use Rattle.widths.proofs.matrix.matrix.Tie as tie
+use Rattle.matrices.proofs.matrix.Statement.{statement}
+use Rattle.matrices.proofs.matrix.Tie as tie
 
 pub matrix-spec : {M : Type 1} → statement M
 matrix-spec =

@@ -1,12 +1,12 @@
--- `widths::matrix::put_dense` is safe and ends. Assumes nothing.
+-- `matrices::put_dense` is safe and ends. Assumes nothing.
 use mathlib.Core.Path.{_≡_, _∙_}
 use Prim.Native.Nat.{_-_}
 use native.Mathlib.Omega.{arith}
 use lib.ListN.{length, length-set}
 use borrow.Author.Needs.{needs}
 use borrow.Author.Tests.{ltb-true}
-use Rattle.widths.proofs.matrix.put_dense.Statement.{statement}
-use Rattle.widths.proofs.matrix.put_dense.Tie as tie
+use Rattle.matrices.proofs.put_dense.Statement.{statement}
+use Rattle.matrices.proofs.put_dense.Tie as tie
 
 abbrev Inv-loop : tie.InvT-loop
 Inv-loop second n starts₀ rows₀ values₀ a₀ k₀ starts rows values a k = (length starts ≡ length starts₀) × (length rows ≡ length rows₀) × (length values ≡ length values₀)

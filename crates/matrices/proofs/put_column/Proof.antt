@@ -1,12 +1,12 @@
--- `widths::matrix::put_column` is safe and ends: the two places rise together. Assumes nothing.
+-- `matrices::put_column` is safe and ends: the two places rise together. Assumes nothing.
 use mathlib.Core.Path.{_≡_}
 use Prim.Native.Nat.{_-_, _≤_}
 use native.Mathlib.Omega.{arith}
 use lib.ListN.{length, length-set}
 use borrow.Author.Needs.{needs}
 use borrow.Author.Tests.{ltb-true}
-use Rattle.widths.proofs.matrix.put_column.Statement.{statement}
-use Rattle.widths.proofs.matrix.put_column.Tie as tie
+use Rattle.matrices.proofs.put_column.Statement.{statement}
+use Rattle.matrices.proofs.put_column.Tie as tie
 
 abbrev Inv-loop : tie.InvT-loop
 Inv-loop second k at rows₀ values₀ i₀ to₀ rows values i to = (i ≤ to) × (length rows ≡ length rows₀) × (length values ≡ length values₀)
