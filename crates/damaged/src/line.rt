@@ -3,25 +3,12 @@ use crate::damage::Damage;
 use crate::dish::Dish;
 use crate::lending::Lending;
 use lines::bits_of;
+use lists::say;
+use lists::say_bits;
+use lists::say_number;
 use statement::Answer;
 use statement::Stage;
 use std::num::wrapping_add_u64;
-
-pub fn say(text: &[u8]) {
-    io::write_all(1, text);
-}
-
-// A number with a space before it.
-pub fn say_number(x: usize) {
-    say(b" ");
-    io::print_decimal(1, x as u64);
-}
-
-// Sixteen digits with a space before them.
-pub fn say_bits(x: u64) {
-    say(b" ");
-    io::print_hex(1, x, 16);
-}
 
 pub fn say_dish(dish: Dish) {
     match dish {

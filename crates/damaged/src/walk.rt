@@ -5,12 +5,12 @@ use crate::damage::more;
 use crate::dish::Dish;
 use crate::dish::record;
 use crate::lending::Lending;
-use crate::line::say;
 use crate::line::say_area;
 use crate::line::say_dish;
 use crate::trial::numbered;
 use crate::trial::solved;
 use crate::trial::viewed;
+use lists::say;
 use statement::Stage;
 
 pub fn states() {

@@ -37,7 +37,7 @@ pub enum Read {
 }
 
 // The float of a bit pattern, a NaN's too.
-fn to_float(bits: u64) -> f64
+pub fn to_float(bits: u64) -> f64
     ensures { λ r. ⌜ r ≡ ofBits binary64 bits ⌝ }
 {
     if bits % 0x8000_0000_0000_0000 > 0x7ff0_0000_0000_0000 {

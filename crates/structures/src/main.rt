@@ -1,7 +1,6 @@
 // Compares the structure with the Rust's: each line of standard input is a matrix (n, a, its n + 1 starts, its a rows),
 // and a line of sixteen numbers answers it. The two lists come from tests/structures. A line that is no such matrix, or
 // has more than 8,192 numbers, ends the program.
-mod numbers;
 mod sums;
 
 use analyse::analyse;
@@ -9,7 +8,7 @@ use answers::number;
 use libc::STDIN_FILENO;
 use libc::STDOUT_FILENO;
 use lines::put_hex;
-use numbers::numbers;
+use lists::numbers;
 use statement::Outcome;
 use std::num::wrapping_add_usize;
 use sums::sum;

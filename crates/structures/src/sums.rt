@@ -1,9 +1,10 @@
 // The sum of a list, by which two lists are compared.
+use lists::added;
 use std::num::wrapping_add_u64;
 
-// The sum with one word more.
-fn added(h: u64, x: usize) -> u64 {
-    ((h << 1) | (h >> 63)) ^ wrapping_add_u64(x as u64, 1)
+// The sum with one word more, which counts as the next number.
+fn counted(h: u64, x: usize) -> u64 {
+    added(h, wrapping_add_u64(x as u64, 1))
 }
 
 // Of the first m words, or of all where there are fewer.
@@ -11,7 +12,7 @@ pub fn sum(list: &[usize], m: usize) -> u64 {
     let mut h = 0;
     let mut i = 0;
     while i < m && i < list.len() {
-        h = added(h, list[i]);
+        h = counted(h, list[i]);
         i += 1;
     }
     h
@@ -22,7 +23,7 @@ pub fn sum_triples(list: &[[usize; 3]], m: usize) -> u64 {
     let mut h = 0;
     let mut i = 0;
     while i < m && i < list.len() {
-        h = added(added(added(h, list[i][0]), list[i][1]), list[i][2]);
+        h = counted(counted(counted(h, list[i][0]), list[i][1]), list[i][2]);
         i += 1;
     }
     h

@@ -13,14 +13,14 @@ abbrev μ-loop : tie.MeasureT-loop
 loop-holds : tie.Need-loop-holds Inv-loop μ-loop
 loop-holds c = search needs
 
-mul-added : tie.Need-mul-added Inv-loop μ-loop
-mul-added c = search needs
+mul-counted : tie.Need-mul-counted Inv-loop μ-loop
+mul-counted c = search needs
 
-shared-slice-read-added : tie.Need-shared-slice-read-added Inv-loop μ-loop
-shared-slice-read-added c = search needs
+shared-slice-read-counted : tie.Need-shared-slice-read-counted Inv-loop μ-loop
+shared-slice-read-counted c = search needs
 
-added-requires : tie.Need-added-requires Inv-loop μ-loop
-added-requires c κs = search needs
+counted-requires : tie.Need-counted-requires Inv-loop μ-loop
+counted-requires c κs = search needs
 
 add-i : tie.Need-add-i Inv-loop μ-loop
 add-i c = search needs
@@ -44,9 +44,9 @@ sum-spec =
     Inv-loop
     μ-loop
     loop-holds
-    mul-added
-    shared-slice-read-added
-    added-requires
+    mul-counted
+    shared-slice-read-counted
+    counted-requires
     add-i
     loop-less
     loop-again

@@ -13,41 +13,41 @@ abbrev μ-loop : tie.MeasureT-loop
 loop-holds : tie.Need-loop-holds Inv-loop μ-loop
 loop-holds c = search needs
 
-mul-added : tie.Need-mul-added Inv-loop μ-loop
-mul-added c = search needs
+mul-counted : tie.Need-mul-counted Inv-loop μ-loop
+mul-counted c = search needs
 
-index-1-added : tie.Need-index-1-added Inv-loop μ-loop
-index-1-added c = search needs
+index-1-counted : tie.Need-index-1-counted Inv-loop μ-loop
+index-1-counted c = search needs
 
-index-2-added : tie.Need-index-2-added Inv-loop μ-loop
-index-2-added c = search needs
+index-2-counted : tie.Need-index-2-counted Inv-loop μ-loop
+index-2-counted c = search needs
 
-added-requires : tie.Need-added-requires Inv-loop μ-loop
-added-requires c κs = search needs
+counted-requires : tie.Need-counted-requires Inv-loop μ-loop
+counted-requires c κs = search needs
 
-mul-added-2 : tie.Need-mul-added-2 Inv-loop μ-loop
-mul-added-2 c = search needs
+mul-counted-2 : tie.Need-mul-counted-2 Inv-loop μ-loop
+mul-counted-2 c = search needs
 
-index-1-added-2 : tie.Need-index-1-added-2 Inv-loop μ-loop
-index-1-added-2 c = search needs
+index-1-counted-2 : tie.Need-index-1-counted-2 Inv-loop μ-loop
+index-1-counted-2 c = search needs
 
-index-2-added-2 : tie.Need-index-2-added-2 Inv-loop μ-loop
-index-2-added-2 c = search needs
+index-2-counted-2 : tie.Need-index-2-counted-2 Inv-loop μ-loop
+index-2-counted-2 c = search needs
 
-added-requires-2 : tie.Need-added-requires-2 Inv-loop μ-loop
-added-requires-2 c κs = search needs
+counted-requires-2 : tie.Need-counted-requires-2 Inv-loop μ-loop
+counted-requires-2 c κs = search needs
 
-mul-added-3 : tie.Need-mul-added-3 Inv-loop μ-loop
-mul-added-3 c = search needs
+mul-counted-3 : tie.Need-mul-counted-3 Inv-loop μ-loop
+mul-counted-3 c = search needs
 
-index-1-added-3 : tie.Need-index-1-added-3 Inv-loop μ-loop
-index-1-added-3 c = search needs
+index-1-counted-3 : tie.Need-index-1-counted-3 Inv-loop μ-loop
+index-1-counted-3 c = search needs
 
-index-2-added-3 : tie.Need-index-2-added-3 Inv-loop μ-loop
-index-2-added-3 c = search needs
+index-2-counted-3 : tie.Need-index-2-counted-3 Inv-loop μ-loop
+index-2-counted-3 c = search needs
 
-added-requires-3 : tie.Need-added-requires-3 Inv-loop μ-loop
-added-requires-3 c κs = search needs
+counted-requires-3 : tie.Need-counted-requires-3 Inv-loop μ-loop
+counted-requires-3 c κs = search needs
 
 add-i : tie.Need-add-i Inv-loop μ-loop
 add-i c = search needs
@@ -71,18 +71,18 @@ sum-triples-spec =
     Inv-loop
     μ-loop
     loop-holds
-    mul-added
-    index-1-added
-    index-2-added
-    added-requires
-    mul-added-2
-    index-1-added-2
-    index-2-added-2
-    added-requires-2
-    mul-added-3
-    index-1-added-3
-    index-2-added-3
-    added-requires-3
+    mul-counted
+    index-1-counted
+    index-2-counted
+    counted-requires
+    mul-counted-2
+    index-1-counted-2
+    index-2-counted-2
+    counted-requires-2
+    mul-counted-3
+    index-1-counted-3
+    index-2-counted-3
+    counted-requires-3
     add-i
     loop-less
     loop-again

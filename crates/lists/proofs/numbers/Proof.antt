@@ -1,12 +1,12 @@
--- `structures::numbers::numbers` meets its contract: the place stays in the text, and each number gets it further. Assumes nothing.
+-- `lists::numbers` meets its contract: the place stays in the text, and each number gets it further. Assumes nothing.
 use mathlib.Core.Path.{_≡_}
 use Prim.Native.Nat.{_-_, _≤_}
 use native.Mathlib.Omega.{arith}
 use lib.ListN.{length, length-set}
 use borrow.Author.Needs.{needs}
 use borrow.Author.Tests.{ltb-true, eqb-false}
-use Rattle.structures.proofs.numbers.numbers.Statement.{statement}
-use Rattle.structures.proofs.numbers.numbers.Tie as tie
+use Rattle.lists.proofs.numbers.Statement.{statement}
+use Rattle.lists.proofs.numbers.Tie as tie
 
 abbrev Inv-loop : tie.InvT-loop
 Inv-loop text at to₀ count₀ i₀ to count i = (at ≤ i) × (i ≤ length text) × (length to ≡ length to₀)

@@ -1,6 +1,7 @@
-// The numbers of a line.
+// What the programs share that run lists: the numbers of a line, a sum by which two lists are compared, and what is written.
 ghost use Prim.Native.Nat.{_≤_, _<_};
 ghost use lib.ListN.{length};
+use libc::STDOUT_FILENO;
 
 // A number, and where its digits end.
 struct Word {
@@ -27,14 +28,14 @@ fn digit(b: u8) -> usize
     (b - b'0') as usize
 }
 
-// The number whose digits begin at a place; of more than seven digits it takes the first seven.
+// The number whose digits begin at a place; of one that does not fit it takes the first digits.
 fn word_at(text: &[u8], at: usize) -> Word
     requires { ⌜ at ≤ length (now text) ⌝ }
     ensures { λ r. ⌜ (at ≤ r .end) × (r .end ≤ length (now (text .entry))) ⌝ }
 {
     let mut value = 0;
     let mut i = at;
-    while i < text.len() && digit(text[i]) < 10 && value < 1000000 {
+    while i < text.len() && digit(text[i]) < 10 && value < 1844674407370955161 {
         value = value * 10 + digit(text[i]);
         i += 1;
     }
@@ -68,4 +69,25 @@ pub fn numbers(text: &[u8], at: usize, to: &mut [usize]) -> Line
         count: 0,
         end: text.len(),
     }
+}
+
+// The sum with one word more.
+pub fn added(h: u64, x: u64) -> u64 {
+    ((h << 1) | (h >> 63)) ^ x
+}
+
+pub fn say(text: &[u8]) {
+    io::write_all(STDOUT_FILENO, text);
+}
+
+// A number with a space before it.
+pub fn say_number(x: usize) {
+    say(b" ");
+    io::print_decimal(STDOUT_FILENO, x as u64);
+}
+
+// Sixteen digits with a space before them.
+pub fn say_bits(x: u64) {
+    say(b" ");
+    io::print_hex(STDOUT_FILENO, x, 16);
 }

@@ -1,14 +1,14 @@
--- `structures::numbers::word_at` meets its contract: at most seven digits, so that the number fits. Assumes nothing.
+-- `lists::word_at` meets its contract: no digit is taken with which the number might not fit. Assumes nothing.
 use Prim.Native.Nat.{_-_, _≤_}
 use native.Mathlib.Omega.{arith}
 use lib.ListN.{length}
 use borrow.Author.Needs.{needs}
 use borrow.Author.Tests.{ltb-true}
-use Rattle.structures.proofs.numbers.word_at.Statement.{statement}
-use Rattle.structures.proofs.numbers.word_at.Tie as tie
+use Rattle.lists.proofs.word_at.Statement.{statement}
+use Rattle.lists.proofs.word_at.Tie as tie
 
 abbrev Inv-loop : tie.InvT-loop
-Inv-loop text at value₀ i₀ value i = (at ≤ i) × (i ≤ length text) × (value ≤ 10000000)
+Inv-loop text at value₀ i₀ value i = (at ≤ i) × (i ≤ length text)
 
 abbrev μ-loop : tie.MeasureT-loop
 μ-loop text at value₀ i₀ value i = length text - i
@@ -23,7 +23,7 @@ digit-requires : tie.Need-digit-requires Inv-loop μ-loop
 digit-requires c κs = search needs
 
 mul-value : tie.Need-mul-value Inv-loop μ-loop
-mul-value c = search needs
+mul-value c = omega (arith, ltb-true)
 
 shared-slice-read-digit-2 : tie.Need-shared-slice-read-digit-2 Inv-loop μ-loop
 shared-slice-read-digit-2 c = search needs

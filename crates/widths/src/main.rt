@@ -1,0 +1,194 @@
+// Holds factor and solve to the Rust by bits: a line of standard input is a matrix, or a run of the last one, and a line of
+// nine numbers answers each run. tests/widths/list.rs says what the lines are, and makes the two lists. A line
+// that is no list of numbers, or has more than 4,096, ends the program.
+ghost use mathlib.Core.Path.{_≡_};
+ghost use mathlib.Core.Bool.{true};
+ghost use Prim.Native.Nat.{_≤_, _<_};
+
+mod line;
+
+use factor::factor;
+use libc::STDIN_FILENO;
+use line::print;
+use line::sum;
+use lists::numbers;
+use matrices::Size;
+use matrices::matrix;
+use solve::solve;
+use statement::Order;
+use statement::Outcome;
+use statement::Stop;
+use std::num::nearest_u64_to_f64;
+
+// The right side: b(i) = i + 1.
+fn put_side(b: &mut [f64]) {
+    let mut i: usize = 0;
+    while i < b.len() {
+        b[i] = nearest_u64_to_f64((i + 1) as u64);
+        i += 1;
+    }
+}
+
+// Solves with what factor left, and prints the line.
+fn solve_and_print(
+    x: Outcome,
+    permutation: &[usize],
+    firsts: &[usize],
+    starts: &[usize],
+    rows: &[usize],
+    values: &[f64],
+    words: &mut [usize],
+    floats: &mut [f64],
+    b: &mut [f64],
+) {
+    let record = x.record;
+    put_side(b);
+    let a = solve(
+        record,
+        permutation,
+        firsts,
+        starts,
+        rows,
+        values,
+        words,
+        floats,
+        b,
+    );
+    print(x, sum(values, record.entries), a, sum(b, b.len()));
+}
+
+// One run, in areas that are long enough for every matrix of the list.
+fn run(
+    n: usize,
+    input_starts: &[usize],
+    input_rows: &[usize],
+    input_values: &[f64],
+    order: Order,
+    list: &[usize],
+    stop: Stop,
+    b: &mut [f64],
+) {
+    let mut permutation = [0; 512];
+    let mut firsts = [0; 512];
+    let mut starts = [0; 512];
+    let mut groups = [0; 512];
+    let mut tasks = [0; 1024];
+    let mut top = [0; 512];
+    let mut words = [0; 16384];
+    let mut floats = [0.0; 16384];
+    let mut rows = [0; 16384];
+    let mut updates = [[0; 3]; 16384];
+    let mut values = [0.0; 16384];
+    let x = factor(
+        n,
+        input_starts,
+        input_rows,
+        input_values,
+        usize::MAX,
+        order,
+        list,
+        stop,
+        &mut permutation,
+        &mut firsts,
+        &mut starts,
+        &mut groups,
+        &mut tasks,
+        &mut top,
+        &mut words,
+        &mut floats,
+        &mut rows,
+        &mut updates,
+        &mut values,
+    );
+    solve_and_print(
+        x,
+        &permutation,
+        &firsts,
+        &starts,
+        &rows,
+        &values,
+        &mut words,
+        &mut floats,
+        b,
+    );
+}
+
+fn order_of(kind: usize) -> Order {
+    if kind == 3 {
+        return Order::Plain;
+    }
+    Order::Listed
+}
+
+fn stop_of(x: usize) -> Stop {
+    if x == 0 {
+        return Stop::End;
+    }
+    Stop::After(x - 1)
+}
+
+// Whether a matrix and a line are as long as what holds them.
+fn lendable(n: usize, a: usize, starts: usize, rows: usize, values: usize, line: usize) -> bool
+    ensures { λ r. ⌜ (r ≡ true → (n < starts) × (n ≤ 512) × (a ≤ rows) × (a ≤ values) × (2 ≤ line)) ⌝ }
+{
+    if n >= starts {
+        return false;
+    }
+    if n > 512 {
+        return false;
+    }
+    if a > rows {
+        return false;
+    }
+    if a > values {
+        return false;
+    }
+    line >= 2
+}
+
+// Runs the matrix as a line of the kinds 3 and 4 says: the kind, where to stop, the list.
+fn run_line(line: &[usize], size: Size, starts: &[usize], rows: &[usize], values: &[f64]) {
+    let mut b = [0.0; 512];
+    let n = size.n;
+    let a = size.a;
+    if !lendable(n, a, starts.len(), rows.len(), values.len(), line.len()) {
+        return;
+    }
+    let kind = line[0];
+    if kind < 3 {
+        return;
+    }
+    run(
+        n,
+        &starts[0..n + 1],
+        &rows[0..a],
+        &values[0..a],
+        order_of(kind),
+        &line[2..],
+        stop_of(line[1]),
+        &mut b[..n],
+    );
+}
+
+// Takes each line in its turn.
+fn answer_all(text: &[u8]) {
+    let mut line = [0; 4096];
+    let mut starts = [0; 512];
+    let mut rows = [0; 16384];
+    let mut values = [0.0; 16384];
+    let mut size = Size { n: 0, a: 0 };
+    let mut at: usize = 0;
+    while at < text.len() {
+        let l = numbers(text, at, &mut line);
+        let count = l.count;
+        size = matrix(&line[..count], size, &mut starts, &mut rows, &mut values);
+        run_line(&line[..count], size, &starts, &rows, &values);
+        at = l.end;
+    }
+}
+
+fn main() {
+    let mut text = [0u8; 393216];
+    let n = io::read_full(STDIN_FILENO, &mut text);
+    answer_all(&text[..n]);
+}
