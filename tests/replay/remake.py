@@ -119,6 +119,9 @@ def fixed():
     for late in (63, 64, 65): yield 'near-8192-%d' % late, lines(128, hub(128, 127) | {(late, 127): 1., (127, 127): 9.}, one(128))
     yield 'entries-4096', ['01000200000009'] + ['020000' + '0000' + '%016X' % bits(4.)] * 4096 + ['03%04X%016X' % (k, 0) for k in (0, 1)] + ['04']
     yield 'entries-4097', ['01000200000009'] + ['020000' + '0000' + '%016X' % bits(4.)] * 4097 + ['03%04X%016X' % (k, 0) for k in (0, 1)] + ['04']
+    # 113,554 bytes and an answer of 2,959: no job and no answer is longer
+    near = [(k - d, k) for d in range(128) for k in range(d, 128)][:4096]
+    yield 'largest', lines(128, {t: 1. for t in near} | {(k, k): 500. for k in range(128)}, [float(k) for k in range(128)])
     # 6 and 5 come before 9
     yield 'cap-before-pivot', lines(3, arrow | {(0, 0): -1.}, one(3), 5)
     yield 'values-before-pivot', lines(128, hub(128, 128) | {(0, 0): -1.}, one(128))
