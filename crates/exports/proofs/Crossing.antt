@@ -14,12 +14,10 @@ use Rattle.statement.specs.declared.Order.{Order}
 use Rattle.statement.specs.declared.Outcome.{Outcome}
 use Rattle.statement.specs.declared.Record.{Record}
 use Rattle.statement.specs.declared.Room.{Room}
-use Rattle.statement.specs.declared.Stage.{Stage}
-use Rattle.statement.specs.declared.Stage.the-variants.{Empty, Analysed, Partial, Full}
 use Rattle.statement.specs.declared.Stop.{Stop}
 use Rattle.survey.specs.Settles.{Settles}
 use Rattle.factor.specs.Filled.{FactorSettles}
-use Rattle.exports.specs.Words.{stageWord, answerWords, recordWords, outcomeWords, stageSaid, recordSaid, handed}
+use Rattle.crossing.specs.Words.{answerWords, outcomeWords, handed}
 use Rattle.exports.specs.Crossed.{AnalyseCrossed, FactorCrossed, SolveCrossed, ColumnCrossed}
 
 said-so : {said : Settled} {x : Outcome} {permutation firsts starts groups tasks top words nine : List ℕ} {ten : List (List ℕ)} → Settles said x permutation firsts starts groups tasks top words nine ten
@@ -63,13 +61,3 @@ module _ (f : FactorAreas) {R R′ : Record} (e : R ≡ R′) where
 
   pub viewed : (q : Factored) {part to : List Float} {m r : ℕ} → part ≡ view R f q → r ≡ length part → to ≡ handed m part → ColumnCrossed (view R′ f q) m r to
   viewed q {m = m} h l t = rw (← e) (record { long = l ∙ ap length h; holds = t ∙ ap (handed m) h })
-
--- what analyse and factor hand out, solve and column take back: the nine words are the record
-pub round : (R : Record) → recordSaid (recordWords R) ≡ R
-round R = λ i. record { state = back (R .state) i; n = R .n; supernodes = R .supernodes; rows = R .rows; updates = R .updates; tasks = R .tasks; top = R .top; entries = R .entries; work = R .work }
-  where
-    back : (s : Stage) → stageSaid (stageWord s) ≡ s
-    back Empty = refl
-    back Analysed = refl
-    back Partial = refl
-    back Full = refl

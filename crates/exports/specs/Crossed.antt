@@ -9,7 +9,7 @@ use Rattle.statement.specs.Calls.{Settled}
 use Rattle.statement.specs.Solve.{Solved}
 use Rattle.survey.specs.Settles.{Settles}
 use Rattle.factor.specs.Filled.{FactorSettles}
-use Rattle.exports.specs.Words.{answerWords, outcomeWords, handed}
+use Rattle.crossing.specs.Words.{answerWords, outcomeWords, handed}
 
 -- the number is returned, the outcome's words are lent back, and the areas are as analyse leaves them
 pub record AnalyseCrossed (said : Settled) (r : ℕ) (results permutation firsts starts groups tasks top words nine : List ℕ) (ten : List (List ℕ)) : Type 0 where

@@ -41,7 +41,7 @@ use prog.Routine.{Routine}
 use prog.Wp.{Calls, Env, Heap, Loops, Out, Tables, Wp, WpFn, afterBlock, afterSeq, afterTurn, atReturn}
 use sound.Loop.{loop-rule}
 use sound.WpLaws.{FmC, WpFn-mono, fmOf}
-use types.Kit.{!, Given, Item, _$_, _∵_, _⊛_, anyQ, atRet, await as w-await, by as w-by, done, drop as w-drop, feqI as w-feqI, feqL as w-feqL, fjoin as w-fjoin, frame as w-frame, fsplit as w-fsplit, join as w-join, keep as w-keep, later, move as w-move, pick as w-pick, qed, raw, rewrite as w-rewrite, some, split as w-split, suffices as w-suffices, use1, use2, use3, ‵, ⋆}
+use types.Kit.{ !, Given, Item, _$_, _∵_, _⊛_, anyQ, atRet, await as w-await, by as w-by, done, drop as w-drop, feqI as w-feqI, feqL as w-feqL, fjoin as w-fjoin, frame as w-frame, fsplit as w-fsplit, join as w-join, keep as w-keep, later, move as w-move, pick as w-pick, qed, raw, rewrite as w-rewrite, some, split as w-split, suffices as w-suffices, use1, use2, use3, ‵, ⋆}
 use types.Part.{agg as w-agg, look-in as w-look-in, sub as w-sub, whole as w-whole}
 use types.Run.{addr as w-addr, alloc0 as w-alloc0, alloc1 as w-alloc1, and-then as w-and-then, assigns as w-assigns, assigns-last as w-assigns-last, bin as w-bin, enter as w-enter, exec as w-exec, fld as w-fld, forget as w-forget, free0 as w-free0, free1 as w-free1, from as w-from, hop as w-hop, init as w-init, land as w-land, leaves-loop as w-leaves-loop, lit as w-lit, load as w-load, look as w-look, no-more as w-no-more, of-opd as w-of-opd, params1 as w-params1, pass0 as w-pass0, pass1 as w-pass1, returns as w-returns, stays as w-stays, stop as w-stop, store as w-store, unit-lit as w-unit-lit}
 use types.Tokens.{lft-end as w-lft-end, lft-new as w-lft-new}
@@ -78,7 +78,7 @@ module _ {M : Type 1} (𝓤 : URA M) (H : Heap 𝓤) (A : Atoms 𝓤) (mem : Mem
   abbrev C-put-update : Contract 𝓤
   C-put-update = tripleOf 𝓤 H A f-put-update.signature (f-put-update.spec 𝓤 H A mem run)
 
-module _ {M : Type 1} (𝓤 : URA M) (H : Heap 𝓤) (A : Atoms 𝓤) (W : Given 𝓤 H A) (mem : Memory → SProp 𝓤) (run : Routine → Fun 𝓤) (κ-us : Lft) (q-us : Share) (b-us o-us : ℕ) (γ-us : GName) (us : List Update) (n : ℕ) 
+module _ {M : Type 1} (𝓤 : URA M) (H : Heap 𝓤) (A : Atoms 𝓤) (W : Given 𝓤 H A) (mem : Memory → SProp 𝓤) (run : Routine → Fun 𝓤) (κ-us : Lft) (q-us : Share) (b-us o-us : ℕ) (γ-us : GName) (us : List Update) (n : ℕ)
     (room-us : Room T-Update.the-row (length us)) (fits-n : n < 2 ^ 64) (pre : n ≤ length (us)) where
   abbrev ref-us : GName → List Update → RefT (List Update)
   ref-us δ l = record { ptr = (b-us, o-us); name = δ; now = l }
@@ -125,7 +125,7 @@ module _ {M : Type 1} (𝓤 : URA M) (H : Heap 𝓤) (A : Atoms 𝓤) (W : Given
   exits : (v-us : List Update) (len-us : length v-us ≡ length us) (kept : Front (λ _. noUpdate) n us v-us n) → ent 𝓤 (⋆ 𝓤 H A (‵ (flft κ-us q-us) ∷ ‵ (MutSlice (named 0) κ-us T-Update.the-row .own (ref-us γ-us v-us) (sliceVal (b-us, o-us) (length us) ∷ [])) ∷ [])) (Post vunit)
   exits v-us len-us kept =
       let told : v-us ≡ replicate n noUpdate ++ drop n (us) = front-filled kept (le-refl n) in qed W (‵ (flft κ-us q-us) ∷ ‵ (MutSlice (named 0) κ-us T-Update.the-row .own (ref-us γ-us v-us) (sliceVal (b-us, o-us) (length us) ∷ [])) ∷ []) ∵
-      w-suffices ! _ (ends-at 𝓤 H A here.ended stayed (here.clauses 𝓤 H A mem run) W bound vunit tt (v-us, (tt, tt)) (len-us, (tt, tt))) $ w-says ! told $ 
+      w-suffices ! _ (ends-at 𝓤 H A here.ended stayed (here.clauses 𝓤 H A mem run) W bound vunit tt (v-us, (tt, tt)) (len-us, (tt, tt))) $ w-says ! told $
       w-nothing ! $ w-move ! (1 ∷ 0 ∷ []) $ w-join ! $ w-frame ! $
       w-nothing ! $ w-owned ! usize (Is usize) (uint-makes 𝓤 H A W w64) n _ (refl, fits-n) $ w-fjoin ! $ w-move ! (1 ∷ 0 ∷ []) $ w-fjoin ! $ w-frame ! $
       w-feqI ! (List Val) (vunit ∷ []) (vunit ∷ []) refl $ done !
@@ -140,7 +140,7 @@ module _ {M : Type 1} (𝓤 : URA M) (H : Heap 𝓤) (A : Atoms 𝓤) (W : Given
     abbrev fm : FmC 𝓤 H (W .laws) (𝓣 .C)
     fm = fmOf 𝓤 H (W .laws) 𝓣
 
-    asked1 : (i : ℕ) (v-us : List Update) (len-us : length v-us ≡ length us) (kept : Front (λ _. noUpdate) n us v-us i) (small : i < n)  → ent 𝓤 (onEntry 𝓤 H A f-none.signature tt tt tt tt) (C-none 𝓤 H A mem run .pre ((tt, tt, tt, tt, tt), tt))
+    asked1 : (i : ℕ) (v-us : List Update) (len-us : length v-us ≡ length us) (kept : Front (λ _. noUpdate) n us v-us i) (small : i < n) → ent 𝓤 (onEntry 𝓤 H A f-none.signature tt tt tt tt) (C-none 𝓤 H A mem run .pre ((tt, tt, tt, tt, tt), tt))
     asked1 i v-us len-us kept small =
         qed W ((‵ ftrue) ∷ ‵ (owns ([]) tt tt) ∷ []) ∵ w-join ! $ w-frame ! $ done !
 
@@ -172,59 +172,59 @@ module _ {M : Type 1} (𝓤 : URA M) (H : Heap 𝓤) (A : Atoms 𝓤) (W : Given
       more : (i : ℕ) (v-us : List Update) (len-us : length v-us ≡ length us) (kept : Front (λ _. noUpdate) n us v-us i) (small : i < n) (X : SProp 𝓤) (k : (v-us′ : List Update) → length v-us′ ≡ length us → Front (λ _. noUpdate) n us v-us′ (suc i) → ent 𝓤 (⋆ 𝓤 H A (At (suc i) v-us′)) X) → ent 𝓤 (⋆ 𝓤 H A (At i v-us)) (Wp 𝓤 H C Λ En body.turn-1 (afterTurn 𝓤 H X Left))
       unfolding afterTurn
       more i v-us len-us kept small X k =
-        let fits-turn : i < 2 ^ 64 = omega arith in
-        let next-fits : i + 1 < 2 ^ 64 = omega arith in
-        qed W (At i v-us) ∵ w-exec ! C Λ En body.turn-1 (anyQ (afterTurn 𝓤 H X Left)) $
-        w-assigns ! (w-bin ! (w-load ! (w-from ! (w-stop !)) (w-look ! 5 refl)) (w-load ! (w-from ! (w-stop !)) (w-look ! 4 refl)) tt) (w-from ! (w-stop !)) (w-init ! 7 refl (tt, tt)) $ 
-        w-rewrite ! 7 (λ (t : Bool). ‵ (fat fullShare tyBool l5 0 (vbool t))) (holds _ (lt→ltb i n small)) refl $ 
-        w-stays ! (w-load ! (w-from ! (w-stop !)) (w-look ! 7 refl)) $ 
-        w-nothing ! $ 
-        w-nothing ! $ 
-        use2 W (raw (C-none 𝓤 H A mem run .pre ((tt, tt, tt, tt, tt), tt))) (asked1 i v-us len-us kept small) $ 
-        w-calls-at ! fm (C-none 𝓤 H A mem run) known-none ((tt, tt, tt, tt, tt), tt) (w-no-more !) (λ r1. 
-        use1 W (later (some (λ (u : Update). ((‵ ftrue) ⊛ ‵ (T-Update.the-row .own u (r1 ∷ []))) ⊛ raw (ensured 𝓤 H A f-none.ended (f-none.clauses 𝓤 H A mem run) tt tt tt u)))) (id⊢ 𝓤 _) $ w-await ! tt $ w-pick ! (λ u1. 
-        w-split ! $ w-move ! (1 ∷ []) $ use1 W (some (λ (zs1 : Unit {0}). ‵ (lasts f-none.ended tt tt zs1) ⊛ raw (fact 𝓤 (u1 ≡ noUpdate)))) (id⊢ 𝓤 _) $ w-pick ! (λ zs1. w-split ! $ w-move ! (1 ∷ []) $ w-heard ! (u1 ≡ noUpdate) (λ d1. 
-        w-drop ! $ 
-        w-split ! $ w-move ! (1 ∷ []) $ w-peeks ! T-Update.the-row (Is T-Update.the-row) (shows 𝓤 H A T-Update.the-row) u1 (r1 ∷ []) (λ is1. w-land ! (w-from ! (w-stop !)) (w-init ! 8 refl (LL.lawful T-Update.the-type L-Update.the-laws 𝓤 H A W .typed u1 _ is1 .0)) $ 
-        w-drop ! $ w-drop ! $ 
-        w-assigns ! (w-addr ! (w-from ! (w-fld ! refl (w-hop ! (w-look-in ! 3 (w-sub ! 0 refl (w-whole !))) (w-stop !))))) (w-from ! (w-stop !)) (w-init ! 9 refl (tt, tt)) $ w-assigns ! (w-agg ! (w-and-then ! (w-load ! (w-from ! (w-stop !)) (w-look ! 9 refl)) (w-and-then ! (w-load ! (w-from ! (w-fld ! refl (w-stop !))) (w-look-in ! 3 (w-sub ! 1 refl (w-whole !)))) (w-no-more !)))) (w-from ! (w-stop !)) (w-init ! 10 refl (tt, (tt, (record { fits = room-us .0 }, tt)))) $ 
-        w-rewrite ! 10 (λ (m : ℕ). ‵ (fat fullShare ty8 l8 0 (sliceVal (b-us, o-us) m))) (sym len-us) refl $ 
-        w-lft-new ! tt (λ ν2-0. w-rewrite ! 1 (λ (m : ℕ). ‵ (MutSlice (named 0) κ-us T-Update.the-row .own (ref-us γ-us v-us) (sliceVal (b-us, o-us) m ∷ []))) (sym len-us) refl $ w-move ! (1 ∷ 2 ∷ []) $ use2 W (later (some (λ (δ : GName). ‵ (MutSlice (named 0) (ν2-0 ∷ []) T-Update.the-row .own (ref-us δ v-us) (sliceVal (b-us, o-us) (length v-us) ∷ [])) ⊛ ‵ (LentAgain T-Update.the-row κ-us (ν2-0 ∷ []) q-us γ-us b-us o-us δ v-us)))) (lends-again T-Update.the-row κ-us (ν2-0 ∷ []) q-us γ-us b-us o-us 𝓤 H A W (named 0) (named 0) v-us) $ w-await ! tt $ w-pick ! (λ δ2-0. w-split ! $ 
-        w-nothing ! $ w-owned ! T-Update.the-row (Is T-Update.the-row) (LL.makes T-Update.the-type L-Update.the-plain 𝓤 H A) u1 _ is1 $ w-fjoin ! $ w-owned ! usize (Is usize) (uint-makes 𝓤 H A W w64) i _ ((refl, fits-turn)) $ w-fjoin ! $ w-move ! (1 ∷ 0 ∷ []) $ w-fjoin ! $ 
-        w-nothing ! $ w-move ! (3 ∷ 0 ∷ []) $ w-join ! $ 
-        use2 W (raw (C-put-update 𝓤 H A mem run .pre (((ν2-0 ∷ [], tt), (fullShare, tt), tt, (ref-us δ2-0 v-us, (i, (u1, tt))), (sliceVal (b-us, o-us) (length v-us) ∷ [], (vint w64 i ∷ [], (r1 ∷ [], tt)))), tt))) (asked2 i v-us len-us kept small u1 r1 is1 d1 ν2-0 δ2-0) $ 
-        w-calls-at ! fm (C-put-update 𝓤 H A mem run) known-put-update (((ν2-0 ∷ [], tt), (fullShare, tt), tt, (ref-us δ2-0 v-us, (i, (u1, tt))), (sliceVal (b-us, o-us) (length v-us) ∷ [], (vint w64 i ∷ [], (r1 ∷ [], tt)))), tt) (w-and-then ! (w-load ! (w-from ! (w-stop !)) (w-look ! 10 refl)) (w-and-then ! (w-load ! (w-from ! (w-stop !)) (w-look ! 5 refl)) (w-and-then ! (w-load ! (w-from ! (w-stop !)) (w-look ! 6 refl)) (w-no-more !)))) (λ r2. 
-        use1 W (later (some (λ (u : Unit {0}). ((‵ (flft (ν2-0 ∷ []) fullShare) ⊛ ‵ ftrue) ⊛ ‵ (Nothing .own u (r2 ∷ []))) ⊛ raw (ensured 𝓤 H A f-put-update.ended (f-put-update.clauses 𝓤 H A mem run) (ν2-0 ∷ [], tt) (ref-us δ2-0 v-us, (i, (u1, tt))) tt u)))) (id⊢ 𝓤 _) $ w-await ! tt $ w-pick ! (λ u2. 
-        w-split ! $ w-move ! (1 ∷ []) $ use1 W (some (λ (zs2 : List Update × (Unit {0} × (Unit {0} × Unit {0}))). ‵ (lasts f-put-update.ended (ν2-0 ∷ [], tt) (ref-us δ2-0 v-us, (i, (u1, tt))) zs2) ⊛ raw (fact 𝓤 ((zs2 .0) ≡ set (v-us) i u1)))) (id⊢ 𝓤 _) $ w-pick ! (λ zs2. w-split ! $ w-move ! (1 ∷ []) $ w-heard ! ((zs2 .0) ≡ set (v-us) i u1) (λ d2. 
-        w-fsplit ! $ w-fsplit ! $ w-move ! (1 ∷ []) $ w-feqL ! (λ same2-us. w-move ! (1 ∷ []) $ w-fsplit ! $ w-drop ! $ w-fsplit ! $ w-drop ! $ w-drop ! $ 
-        w-move ! (1 ∷ []) $ w-split ! $ w-move ! (1 ∷ []) $ w-peeks ! Nothing (Is Nothing) (shows 𝓤 H A Nothing) u2 (r2 ∷ []) (λ is2. w-land ! (w-from ! (w-stop !)) (w-init ! 10 refl (nothing-lawful 𝓤 H A W .typed u2 _ is2 .0)) $ 
-        w-drop ! $ w-split ! $ w-lft-end ! tt $ w-move ! (0 ∷ 3 ∷ 2 ∷ []) $ use3 W (later (‵ (MutSlice (named 0) κ-us T-Update.the-row .own (ref-us γ-us (zs2 .0)) (sliceVal (b-us, o-us) (length v-us) ∷ [])) ⊛ ‵ (flft κ-us q-us))) (comes-back T-Update.the-row κ-us (ν2-0 ∷ []) q-us γ-us b-us o-us 𝓤 H A W (named 0) (named 0) v-us δ2-0 (zs2 .0) (subst (Room T-Update.the-row) (sym len-us) room-us) same2-us) $ w-await ! tt $ w-split ! $ 
-        w-rewrite ! 0 (λ (m : ℕ). ‵ (MutSlice (named 0) κ-us T-Update.the-row .own (ref-us γ-us (zs2 .0)) (sliceVal (b-us, o-us) m ∷ []))) len-us refl $ 
-        w-move ! (2 ∷ []) $ w-drop ! $ 
-        w-forget ! 8 refl $ w-forget ! 9 refl $ w-forget ! 10 refl $ w-assigns-last ! (w-bin ! (w-load ! (w-from ! (w-stop !)) (w-look ! 5 refl)) (w-lit ! tt) (record { fits = next-fits })) (w-from ! (w-stop !)) (w-store ! 5 refl (tt, record { fits = next-fits })) $ 
-        w-forget ! 6 refl $ w-forget ! 7 refl $ w-rewrite ! 5 (λ (j : ℕ). ‵ (fat fullShare ty3 l3 0 (vint w64 j))) (add-one i) refl $ 
-        w-keep ! (0 ∷ 1 ∷ 2 ∷ 3 ∷ 4 ∷ 5 ∷ 6 ∷ 7 ∷ 8 ∷ 9 ∷ 10 ∷ 11 ∷ 12 ∷ 13 ∷ 14 ∷ 15 ∷ 16 ∷ 17 ∷ 18 ∷ 19 ∷ []) $ w-by ! (k (zs2 .0) (same2-us ∙ len-us) (again i v-us len-us kept small u1 r1 is1 d1 (zs2 .0) d2 same2-us)))))))))))))))
+          let fits-turn : i < 2 ^ 64 = omega arith in
+          let next-fits : i + 1 < 2 ^ 64 = omega arith in
+          qed W (At i v-us) ∵ w-exec ! C Λ En body.turn-1 (anyQ (afterTurn 𝓤 H X Left)) $
+          w-assigns ! (w-bin ! (w-load ! (w-from ! (w-stop !)) (w-look ! 5 refl)) (w-load ! (w-from ! (w-stop !)) (w-look ! 4 refl)) tt) (w-from ! (w-stop !)) (w-init ! 7 refl (tt, tt)) $
+          w-rewrite ! 7 (λ (t : Bool). ‵ (fat fullShare tyBool l5 0 (vbool t))) (holds _ (lt→ltb i n small)) refl $
+          w-stays ! (w-load ! (w-from ! (w-stop !)) (w-look ! 7 refl)) $
+          w-nothing ! $
+          w-nothing ! $
+          use2 W (raw (C-none 𝓤 H A mem run .pre ((tt, tt, tt, tt, tt), tt))) (asked1 i v-us len-us kept small) $
+          w-calls-at ! fm (C-none 𝓤 H A mem run) known-none ((tt, tt, tt, tt, tt), tt) (w-no-more !) (λ r1.
+          use1 W (later (some (λ (u : Update). ((‵ ftrue) ⊛ ‵ (T-Update.the-row .own u (r1 ∷ []))) ⊛ raw (ensured 𝓤 H A f-none.ended (f-none.clauses 𝓤 H A mem run) tt tt tt u)))) (id⊢ 𝓤 _) $ w-await ! tt $ w-pick ! (λ u1.
+          w-split ! $ w-move ! (1 ∷ []) $ use1 W (some (λ (zs1 : Unit {0}). ‵ (lasts f-none.ended tt tt zs1) ⊛ raw (fact 𝓤 (u1 ≡ noUpdate)))) (id⊢ 𝓤 _) $ w-pick ! (λ zs1. w-split ! $ w-move ! (1 ∷ []) $ w-heard ! (u1 ≡ noUpdate) (λ d1.
+          w-drop ! $
+          w-split ! $ w-move ! (1 ∷ []) $ w-peeks ! T-Update.the-row (Is T-Update.the-row) (shows 𝓤 H A T-Update.the-row) u1 (r1 ∷ []) (λ is1. w-land ! (w-from ! (w-stop !)) (w-init ! 8 refl (LL.lawful T-Update.the-type L-Update.the-laws 𝓤 H A W .typed u1 _ is1 .0)) $
+          w-drop ! $ w-drop ! $
+          w-assigns ! (w-addr ! (w-from ! (w-fld ! refl (w-hop ! (w-look-in ! 3 (w-sub ! 0 refl (w-whole !))) (w-stop !))))) (w-from ! (w-stop !)) (w-init ! 9 refl (tt, tt)) $ w-assigns ! (w-agg ! (w-and-then ! (w-load ! (w-from ! (w-stop !)) (w-look ! 9 refl)) (w-and-then ! (w-load ! (w-from ! (w-fld ! refl (w-stop !))) (w-look-in ! 3 (w-sub ! 1 refl (w-whole !)))) (w-no-more !)))) (w-from ! (w-stop !)) (w-init ! 10 refl (tt, (tt, (record { fits = room-us .0 }, tt)))) $
+          w-rewrite ! 10 (λ (m : ℕ). ‵ (fat fullShare ty8 l8 0 (sliceVal (b-us, o-us) m))) (sym len-us) refl $
+          w-lft-new ! tt (λ ν2-0. w-rewrite ! 1 (λ (m : ℕ). ‵ (MutSlice (named 0) κ-us T-Update.the-row .own (ref-us γ-us v-us) (sliceVal (b-us, o-us) m ∷ []))) (sym len-us) refl $ w-move ! (1 ∷ 2 ∷ []) $ use2 W (later (some (λ (δ : GName). ‵ (MutSlice (named 0) (ν2-0 ∷ []) T-Update.the-row .own (ref-us δ v-us) (sliceVal (b-us, o-us) (length v-us) ∷ [])) ⊛ ‵ (LentAgain T-Update.the-row κ-us (ν2-0 ∷ []) q-us γ-us b-us o-us δ v-us)))) (lends-again T-Update.the-row κ-us (ν2-0 ∷ []) q-us γ-us b-us o-us 𝓤 H A W (named 0) (named 0) v-us) $ w-await ! tt $ w-pick ! (λ δ2-0. w-split ! $
+          w-nothing ! $ w-owned ! T-Update.the-row (Is T-Update.the-row) (LL.makes T-Update.the-type L-Update.the-plain 𝓤 H A) u1 _ is1 $ w-fjoin ! $ w-owned ! usize (Is usize) (uint-makes 𝓤 H A W w64) i _ ((refl, fits-turn)) $ w-fjoin ! $ w-move ! (1 ∷ 0 ∷ []) $ w-fjoin ! $
+          w-nothing ! $ w-move ! (3 ∷ 0 ∷ []) $ w-join ! $
+          use2 W (raw (C-put-update 𝓤 H A mem run .pre (((ν2-0 ∷ [], tt), (fullShare, tt), tt, (ref-us δ2-0 v-us, (i, (u1, tt))), (sliceVal (b-us, o-us) (length v-us) ∷ [], (vint w64 i ∷ [], (r1 ∷ [], tt)))), tt))) (asked2 i v-us len-us kept small u1 r1 is1 d1 ν2-0 δ2-0) $
+          w-calls-at ! fm (C-put-update 𝓤 H A mem run) known-put-update (((ν2-0 ∷ [], tt), (fullShare, tt), tt, (ref-us δ2-0 v-us, (i, (u1, tt))), (sliceVal (b-us, o-us) (length v-us) ∷ [], (vint w64 i ∷ [], (r1 ∷ [], tt)))), tt) (w-and-then ! (w-load ! (w-from ! (w-stop !)) (w-look ! 10 refl)) (w-and-then ! (w-load ! (w-from ! (w-stop !)) (w-look ! 5 refl)) (w-and-then ! (w-load ! (w-from ! (w-stop !)) (w-look ! 6 refl)) (w-no-more !)))) (λ r2.
+          use1 W (later (some (λ (u : Unit {0}). ((‵ (flft (ν2-0 ∷ []) fullShare) ⊛ ‵ ftrue) ⊛ ‵ (Nothing .own u (r2 ∷ []))) ⊛ raw (ensured 𝓤 H A f-put-update.ended (f-put-update.clauses 𝓤 H A mem run) (ν2-0 ∷ [], tt) (ref-us δ2-0 v-us, (i, (u1, tt))) tt u)))) (id⊢ 𝓤 _) $ w-await ! tt $ w-pick ! (λ u2.
+          w-split ! $ w-move ! (1 ∷ []) $ use1 W (some (λ (zs2 : List Update × (Unit {0} × (Unit {0} × Unit {0}))). ‵ (lasts f-put-update.ended (ν2-0 ∷ [], tt) (ref-us δ2-0 v-us, (i, (u1, tt))) zs2) ⊛ raw (fact 𝓤 ((zs2 .0) ≡ set (v-us) i u1)))) (id⊢ 𝓤 _) $ w-pick ! (λ zs2. w-split ! $ w-move ! (1 ∷ []) $ w-heard ! ((zs2 .0) ≡ set (v-us) i u1) (λ d2.
+          w-fsplit ! $ w-fsplit ! $ w-move ! (1 ∷ []) $ w-feqL ! (λ same2-us. w-move ! (1 ∷ []) $ w-fsplit ! $ w-drop ! $ w-fsplit ! $ w-drop ! $ w-drop ! $
+          w-move ! (1 ∷ []) $ w-split ! $ w-move ! (1 ∷ []) $ w-peeks ! Nothing (Is Nothing) (shows 𝓤 H A Nothing) u2 (r2 ∷ []) (λ is2. w-land ! (w-from ! (w-stop !)) (w-init ! 10 refl (nothing-lawful 𝓤 H A W .typed u2 _ is2 .0)) $
+          w-drop ! $ w-split ! $ w-lft-end ! tt $ w-move ! (0 ∷ 3 ∷ 2 ∷ []) $ use3 W (later (‵ (MutSlice (named 0) κ-us T-Update.the-row .own (ref-us γ-us (zs2 .0)) (sliceVal (b-us, o-us) (length v-us) ∷ [])) ⊛ ‵ (flft κ-us q-us))) (comes-back T-Update.the-row κ-us (ν2-0 ∷ []) q-us γ-us b-us o-us 𝓤 H A W (named 0) (named 0) v-us δ2-0 (zs2 .0) (subst (Room T-Update.the-row) (sym len-us) room-us) same2-us) $ w-await ! tt $ w-split ! $
+          w-rewrite ! 0 (λ (m : ℕ). ‵ (MutSlice (named 0) κ-us T-Update.the-row .own (ref-us γ-us (zs2 .0)) (sliceVal (b-us, o-us) m ∷ []))) len-us refl $
+          w-move ! (2 ∷ []) $ w-drop ! $
+          w-forget ! 8 refl $ w-forget ! 9 refl $ w-forget ! 10 refl $ w-assigns-last ! (w-bin ! (w-load ! (w-from ! (w-stop !)) (w-look ! 5 refl)) (w-lit ! tt) (record { fits = next-fits })) (w-from ! (w-stop !)) (w-store ! 5 refl (tt, record { fits = next-fits })) $
+          w-forget ! 6 refl $ w-forget ! 7 refl $ w-rewrite ! 5 (λ (j : ℕ). ‵ (fat fullShare ty3 l3 0 (vint w64 j))) (add-one i) refl $
+          w-keep ! (0 ∷ 1 ∷ 2 ∷ 3 ∷ 4 ∷ 5 ∷ 6 ∷ 7 ∷ 8 ∷ 9 ∷ 10 ∷ 11 ∷ 12 ∷ 13 ∷ 14 ∷ 15 ∷ 16 ∷ 17 ∷ 18 ∷ 19 ∷ []) $ w-by ! (k (zs2 .0) (same2-us ∙ len-us) (again i v-us len-us kept small u1 r1 is1 d1 (zs2 .0) d2 same2-us)))))))))))))))
 
       left : (v-us : List Update) (len-us : length v-us ≡ length us) (kept : Front (λ _. noUpdate) n us v-us n) (X : SProp 𝓤) → ent 𝓤 (⋆ 𝓤 H A (At n v-us)) (Wp 𝓤 H C Λ En body.turn-1 (afterTurn 𝓤 H X Left))
       unfolding afterTurn
       left v-us len-us kept X =
-        qed W (At n v-us) ∵ w-exec ! C Λ En body.turn-1 (anyQ (afterTurn 𝓤 H X Left)) $
-        w-assigns ! (w-bin ! (w-load ! (w-from ! (w-stop !)) (w-look ! 5 refl)) (w-load ! (w-from ! (w-stop !)) (w-look ! 4 refl)) tt) (w-from ! (w-stop !)) (w-init ! 7 refl (tt, tt)) $ 
-        w-rewrite ! 7 (λ (t : Bool). ‵ (fat fullShare tyBool l5 0 (vbool t))) (fails _ (λ a. lt-irrefl n (ltb→lt n n a))) refl $ 
-        w-leaves-loop ! (w-load ! (w-from ! (w-stop !)) (w-look ! 7 refl)) $ w-exec ! C Λ En body.t-3 (atRet En Post) $ 
-        w-assigns ! (w-of-opd ! (w-unit-lit !)) (w-from ! (w-stop !)) (w-init ! 2 refl (tt, tt)) $ 
-        w-returns ! (w-look ! 2 refl) $ w-forget ! 2 refl $ w-forget ! 3 refl $ w-forget ! 4 refl $ w-forget ! 5 refl $ w-forget ! 7 refl $ 
-        w-move ! (2 ∷ 11 ∷ []) $ w-free1 ! $ w-move ! (2 ∷ 10 ∷ []) $ w-free1 ! $ w-move ! (2 ∷ 9 ∷ []) $ w-free1 ! $ w-move ! (2 ∷ 8 ∷ []) $ w-free1 ! $ w-move ! (2 ∷ 7 ∷ []) $ w-free1 ! $ w-move ! (2 ∷ 6 ∷ []) $ w-free1 ! $ w-move ! (2 ∷ 5 ∷ []) $ w-free1 ! $ w-move ! (2 ∷ 4 ∷ []) $ w-free1 ! $ w-move ! (2 ∷ 3 ∷ []) $ w-free1 ! $ w-free0 ! $ 
-        w-keep ! (1 ∷ 0 ∷ []) $ w-by ! (exits v-us len-us kept)
+          qed W (At n v-us) ∵ w-exec ! C Λ En body.turn-1 (anyQ (afterTurn 𝓤 H X Left)) $
+          w-assigns ! (w-bin ! (w-load ! (w-from ! (w-stop !)) (w-look ! 5 refl)) (w-load ! (w-from ! (w-stop !)) (w-look ! 4 refl)) tt) (w-from ! (w-stop !)) (w-init ! 7 refl (tt, tt)) $
+          w-rewrite ! 7 (λ (t : Bool). ‵ (fat fullShare tyBool l5 0 (vbool t))) (fails _ (λ a. lt-irrefl n (ltb→lt n n a))) refl $
+          w-leaves-loop ! (w-load ! (w-from ! (w-stop !)) (w-look ! 7 refl)) $ w-exec ! C Λ En body.t-3 (atRet En Post) $
+          w-assigns ! (w-of-opd ! (w-unit-lit !)) (w-from ! (w-stop !)) (w-init ! 2 refl (tt, tt)) $
+          w-returns ! (w-look ! 2 refl) $ w-forget ! 2 refl $ w-forget ! 3 refl $ w-forget ! 4 refl $ w-forget ! 5 refl $ w-forget ! 7 refl $
+          w-move ! (2 ∷ 11 ∷ []) $ w-free1 ! $ w-move ! (2 ∷ 10 ∷ []) $ w-free1 ! $ w-move ! (2 ∷ 9 ∷ []) $ w-free1 ! $ w-move ! (2 ∷ 8 ∷ []) $ w-free1 ! $ w-move ! (2 ∷ 7 ∷ []) $ w-free1 ! $ w-move ! (2 ∷ 6 ∷ []) $ w-free1 ! $ w-move ! (2 ∷ 5 ∷ []) $ w-free1 ! $ w-move ! (2 ∷ 4 ∷ []) $ w-free1 ! $ w-move ! (2 ∷ 3 ∷ []) $ w-free1 ! $ w-free0 ! $
+          w-keep ! (1 ∷ 0 ∷ []) $ w-by ! (exits v-us len-us kept)
 
       ends : (i : ℕ) (v-us : List Update) → i ≡ n → length v-us ≡ length us → Front (λ _. noUpdate) n us v-us i → (X : SProp 𝓤) → ent 𝓤 (⋆ 𝓤 H A (At i v-us)) (Wp 𝓤 H C Λ En body.turn-1 (afterTurn 𝓤 H X Left))
       ends i v-us e len-us kept X = subst (λ (j : ℕ). Front (λ _. noUpdate) n us v-us j → ent 𝓤 (⋆ 𝓤 H A (At j v-us)) (Wp 𝓤 H C Λ En body.turn-1 (afterTurn 𝓤 H X Left))) (sym e) (λ kept′. left v-us len-us kept′ X) kept
 
       below : (t i : ℕ) (v-us′ : List Update) → suc i + t ≡ n → length v-us′ ≡ length us → Front (λ _. noUpdate) n us v-us′ (suc i) → ent 𝓤 (⋆ 𝓤 H A (At (suc i) v-us′)) (Below (suc t))
       below t i v-us′ e len-us′ kept′ =
-        via 𝓤 (Inv t)
-        (via 𝓤 (ex 𝓤 (λ (v-us : List Update). guard 𝓤 (((suc i) + t ≡ n) × (length v-us ≡ length us) × (Front (λ _. noUpdate) n us v-us (suc i))) (⋆ 𝓤 H A (At (suc i) v-us)))) (via 𝓤 (guard 𝓤 (((suc i) + t ≡ n) × (length v-us′ ≡ length us) × (Front (λ _. noUpdate) n us v-us′ (suc i))) (⋆ 𝓤 H A (At (suc i) v-us′))) (guardI 𝓤 (((suc i) + t ≡ n) × (length v-us′ ≡ length us) × (Front (λ _. noUpdate) n us v-us′ (suc i))) (⋆ 𝓤 H A (At (suc i) v-us′)) (e, len-us′, kept′)) (exI 𝓤 (λ (v-us : List Update). guard 𝓤 (((suc i) + t ≡ n) × (length v-us ≡ length us) × (Front (λ _. noUpdate) n us v-us (suc i))) (⋆ 𝓤 H A (At (suc i) v-us))) v-us′)) (exI 𝓤 (λ (i : ℕ). ex 𝓤 (λ (v-us : List Update). guard 𝓤 ((i + t ≡ n) × (length v-us ≡ length us) × (Front (λ _. noUpdate) n us v-us i)) (⋆ 𝓤 H A (At i v-us)))) (suc i)))
-        (via 𝓤 (guard 𝓤 (t < suc t) (Inv t)) (guardI 𝓤 (t < suc t) (Inv t) (lt-suc-self t)) (exI 𝓤 (λ (v : ℕ). guard 𝓤 (v < suc t) (Inv v)) t))
+          via 𝓤 (Inv t)
+          (via 𝓤 (ex 𝓤 (λ (v-us : List Update). guard 𝓤 (((suc i) + t ≡ n) × (length v-us ≡ length us) × (Front (λ _. noUpdate) n us v-us (suc i))) (⋆ 𝓤 H A (At (suc i) v-us)))) (via 𝓤 (guard 𝓤 (((suc i) + t ≡ n) × (length v-us′ ≡ length us) × (Front (λ _. noUpdate) n us v-us′ (suc i))) (⋆ 𝓤 H A (At (suc i) v-us′))) (guardI 𝓤 (((suc i) + t ≡ n) × (length v-us′ ≡ length us) × (Front (λ _. noUpdate) n us v-us′ (suc i))) (⋆ 𝓤 H A (At (suc i) v-us′)) (e, len-us′, kept′)) (exI 𝓤 (λ (v-us : List Update). guard 𝓤 (((suc i) + t ≡ n) × (length v-us ≡ length us) × (Front (λ _. noUpdate) n us v-us (suc i))) (⋆ 𝓤 H A (At (suc i) v-us))) v-us′)) (exI 𝓤 (λ (i : ℕ). ex 𝓤 (λ (v-us : List Update). guard 𝓤 ((i + t ≡ n) × (length v-us ≡ length us) × (Front (λ _. noUpdate) n us v-us i)) (⋆ 𝓤 H A (At i v-us)))) (suc i)))
+          (via 𝓤 (guard 𝓤 (t < suc t) (Inv t)) (guardI 𝓤 (t < suc t) (Inv t) (lt-suc-self t)) (exI 𝓤 (λ (v : ℕ). guard 𝓤 (v < suc t) (Inv v)) t))
 
       turn-at : (t i : ℕ) (v-us : List Update) → ((i + t ≡ n) × (length v-us ≡ length us) × (Front (λ _. noUpdate) n us v-us i)) → ent 𝓤 (⋆ 𝓤 H A (At i v-us)) (Wp 𝓤 H C Λ En body.turn-1 (afterTurn 𝓤 H (Below t) Left))
       turn-at zero i v-us f = ends i v-us (sym (add-zero i) ∙ f .0) (f .1) (f .2) (Below 0)
@@ -235,19 +235,18 @@ module _ {M : Type 1} (𝓤 : URA M) (H : Heap 𝓤) (A : Atoms 𝓤) (W : Given
 
       loops : ent 𝓤 (⋆ 𝓤 H A (At 0 us)) (Wp 𝓤 H C Λ En body.s-2 (afterSeq 𝓤 H (Wp 𝓤 H C Λ En body.t-3 (atReturn 𝓤 H En Post)) (atReturn 𝓤 H En Post)))
       loops =
-        via 𝓤 (Inv n)
-        (via 𝓤 (ex 𝓤 (λ (v-us : List Update). guard 𝓤 ((0 + n ≡ n) × (length v-us ≡ length us) × (Front (λ _. noUpdate) n us v-us 0)) (⋆ 𝓤 H A (At 0 v-us)))) (via 𝓤 (guard 𝓤 ((0 + n ≡ n) × (length us ≡ length us) × (Front (λ _. noUpdate) n us us 0)) (⋆ 𝓤 H A (At 0 us))) (guardI 𝓤 ((0 + n ≡ n) × (length us ≡ length us) × (Front (λ _. noUpdate) n us us 0)) (⋆ 𝓤 H A (At 0 us)) (zero-add n, refl, front-start (λ _. noUpdate) n us pre)) (exI 𝓤 (λ (v-us : List Update). guard 𝓤 ((0 + n ≡ n) × (length v-us ≡ length us) × (Front (λ _. noUpdate) n us v-us 0)) (⋆ 𝓤 H A (At 0 v-us))) us)) (exI 𝓤 (λ (i : ℕ). ex 𝓤 (λ (v-us : List Update). guard 𝓤 ((i + n ≡ n) × (length v-us ≡ length us) × (Front (λ _. noUpdate) n us v-us i)) (⋆ 𝓤 H A (At i v-us)))) 0))
-        (loop-rule 𝓤 H (W .laws) 𝓣 _<_ (Nat·lt-wfRel .wf) En body.turn-1 Left Inv turns n)
-
+          via 𝓤 (Inv n)
+          (via 𝓤 (ex 𝓤 (λ (v-us : List Update). guard 𝓤 ((0 + n ≡ n) × (length v-us ≡ length us) × (Front (λ _. noUpdate) n us v-us 0)) (⋆ 𝓤 H A (At 0 v-us)))) (via 𝓤 (guard 𝓤 ((0 + n ≡ n) × (length us ≡ length us) × (Front (λ _. noUpdate) n us us 0)) (⋆ 𝓤 H A (At 0 us))) (guardI 𝓤 ((0 + n ≡ n) × (length us ≡ length us) × (Front (λ _. noUpdate) n us us 0)) (⋆ 𝓤 H A (At 0 us)) (zero-add n, refl, front-start (λ _. noUpdate) n us pre)) (exI 𝓤 (λ (v-us : List Update). guard 𝓤 ((0 + n ≡ n) × (length v-us ≡ length us) × (Front (λ _. noUpdate) n us v-us 0)) (⋆ 𝓤 H A (At 0 v-us))) us)) (exI 𝓤 (λ (i : ℕ). ex 𝓤 (λ (v-us : List Update). guard 𝓤 ((i + n ≡ n) × (length v-us ≡ length us) × (Front (λ _. noUpdate) n us v-us i)) (⋆ 𝓤 H A (At i v-us)))) 0))
+          (loop-rule 𝓤 H (W .laws) 𝓣 _<_ (Nat·lt-wfRel .wf) En body.turn-1 Left Inv turns n)
 
     walk : ent 𝓤 (onEntry 𝓤 H A here.signature (κ-us, tt) (q-us, tt) (ref-us γ-us us, (n, tt)) at-entry) (WpFn 𝓤 H C Λ code.function (s-us ∷ vint w64 n ∷ []) Post)
     walk =
-        qed W ((‵ (flft κ-us q-us) ⊛ ‵ ftrue) ∷ ‵ (owns (MutSlice (named 0) κ-us T-Update.the-row ∷ usize ∷ []) (ref-us γ-us us, (n, tt)) at-entry) ∷ []) ∵ w-enter ! C Λ code.function (s-us ∷ vint w64 n ∷ []) _ $ 
-        w-alloc1 ! (λ l0. w-alloc1 ! (λ l1. w-alloc1 ! (λ l2. w-alloc1 ! (λ l3. w-alloc1 ! (λ l4. w-alloc1 ! (λ l5. w-alloc1 ! (λ l6. w-alloc1 ! (λ l7. w-alloc1 ! (λ l8. w-alloc0 ! $ w-params1 ! $ 
-        w-pass1 ! (w-init ! 14 refl (tt, (tt, (record { fits = room-us .0 }, tt)))) $ w-pass1 ! (w-init ! 12 refl (tt, record { fits = fits-n })) $ w-pass0 ! $ 
-        w-move ! (19 ∷ []) $ w-fsplit ! $ w-move ! (1 ∷ []) $ w-fsplit ! $ w-drop ! $ w-drop ! $ 
-        w-move ! (19 ∷ []) $ w-split ! $ w-move ! (1 ∷ []) $ w-drop ! $ 
-        w-assigns ! (w-of-opd ! (w-lit ! tt)) (w-from ! (w-stop !)) (w-init ! 12 refl (tt, record { fits = lit< tt })) $ 
+        qed W ((‵ (flft κ-us q-us) ⊛ ‵ ftrue) ∷ ‵ (owns (MutSlice (named 0) κ-us T-Update.the-row ∷ usize ∷ []) (ref-us γ-us us, (n, tt)) at-entry) ∷ []) ∵ w-enter ! C Λ code.function (s-us ∷ vint w64 n ∷ []) _ $
+        w-alloc1 ! (λ l0. w-alloc1 ! (λ l1. w-alloc1 ! (λ l2. w-alloc1 ! (λ l3. w-alloc1 ! (λ l4. w-alloc1 ! (λ l5. w-alloc1 ! (λ l6. w-alloc1 ! (λ l7. w-alloc1 ! (λ l8. w-alloc0 ! $ w-params1 ! $
+        w-pass1 ! (w-init ! 14 refl (tt, (tt, (record { fits = room-us .0 }, tt)))) $ w-pass1 ! (w-init ! 12 refl (tt, record { fits = fits-n })) $ w-pass0 ! $
+        w-move ! (19 ∷ []) $ w-fsplit ! $ w-move ! (1 ∷ []) $ w-fsplit ! $ w-drop ! $ w-drop ! $
+        w-move ! (19 ∷ []) $ w-split ! $ w-move ! (1 ∷ []) $ w-drop ! $
+        w-assigns ! (w-of-opd ! (w-lit ! tt)) (w-from ! (w-stop !)) (w-init ! 12 refl (tt, record { fits = lit< tt })) $
         w-keep ! (1 ∷ 0 ∷ 18 ∷ 16 ∷ 14 ∷ 12 ∷ 10 ∷ 8 ∷ 6 ∷ 4 ∷ 2 ∷ 19 ∷ 17 ∷ 15 ∷ 13 ∷ 11 ∷ 9 ∷ 7 ∷ 5 ∷ 3 ∷ []) $ w-by ! (loops l0 l1 l2 l3 l4 l5 l6 l7 l8))))))))))
 
 module _ {M : Type 1} (𝓤 : URA M) (H : Heap 𝓤) (A : Atoms 𝓤) (W : Given 𝓤 H A) (mem : Memory → SProp 𝓤) (run : Routine → Fun 𝓤) where

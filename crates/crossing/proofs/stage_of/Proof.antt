@@ -1,7 +1,7 @@
--- `exports::stage_of` meets its contract, by its tests. Assumes nothing.
+-- `crossing::stage_of` meets its contract, by its tests. Assumes nothing.
 use borrow.Author.Tests.{eq-eqb, ne-eqb}
-use Rattle.exports.proofs.stage_of.Statement.{statement}
-use Rattle.exports.proofs.stage_of.Tie as tie
+use Rattle.crossing.proofs.stage_of.Statement.{statement}
+use Rattle.crossing.proofs.stage_of.Tie as tie
 
 returns : tie.Need-returns
 returns c = rw (eq-eqb _ _ (c .if1 .taken))

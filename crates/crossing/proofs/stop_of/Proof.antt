@@ -1,7 +1,7 @@
--- `exports::stop_of` meets its contract, by its test. Assumes nothing.
+-- `crossing::stop_of` meets its contract, by its test. Assumes nothing.
 use borrow.Author.Tests.{eq-eqb, ne-eqb}
-use Rattle.exports.proofs.stop_of.Statement.{statement}
-use Rattle.exports.proofs.stop_of.Tie as tie
+use Rattle.crossing.proofs.stop_of.Statement.{statement}
+use Rattle.crossing.proofs.stop_of.Tie as tie
 
 returns : tie.Need-returns
 returns c = rw (eq-eqb _ _ (c .if1 .taken))

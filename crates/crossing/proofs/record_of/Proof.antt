@@ -1,7 +1,7 @@
--- `exports::record_of` meets its contract, word by word. Assumes nothing.
+-- `crossing::record_of` meets its contract, word by word. Assumes nothing.
 use borrow.Author.Needs.{needs}
-use Rattle.exports.proofs.record_of.Statement.{statement}
-use Rattle.exports.proofs.record_of.Tie as tie
+use Rattle.crossing.proofs.record_of.Statement.{statement}
+use Rattle.crossing.proofs.record_of.Tie as tie
 
 element-copy-out-stage-of : tie.Need-element-copy-out-stage-of
 element-copy-out-stage-of c = search needs

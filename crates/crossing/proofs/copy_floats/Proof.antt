@@ -1,4 +1,4 @@
--- `exports::copy_floats` meets its contract: the floats before i are those of from. Assumes nothing.
+-- `crossing::copy_floats` meets its contract: the floats before i are those of from. Assumes nothing.
 use Prim.Native.Nat.{_-_}
 use native.Mathlib.Omega.{arith}
 use lib.ListN.{length, getD}
@@ -6,9 +6,9 @@ use lib.Ieee.{nan}
 use Rattle.statement.specs.Input.{+0}
 use Rattle.areas.proofs.Lists.{getD-any}
 use Rattle.areas.proofs.Front.{Front, front-start, front-more}
-use Rattle.exports.proofs.Copied.{copied}
-use Rattle.exports.proofs.copy_floats.Statement.{statement}
-use Rattle.exports.proofs.copy_floats.Tie as tie
+use Rattle.crossing.proofs.Copied.{copied}
+use Rattle.crossing.proofs.copy_floats.Statement.{statement}
+use Rattle.crossing.proofs.copy_floats.Tie as tie
 
 abbrev Inv-loop : tie.InvT-loop
 Inv-loop from to₀ i₀ to i = Front (λ i. getD from i +0) (length from) to₀ to i

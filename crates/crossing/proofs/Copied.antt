@@ -12,7 +12,7 @@ use Rattle.statement.specs.Input.{+0}
 use Rattle.laws.proofs.Ranks.{list-length, list-at}
 use Rattle.areas.proofs.Front.{Front, front-over}
 use Rattle.areas.proofs.Held.{held-over}
-use Rattle.exports.specs.Words.{handed}
+use Rattle.crossing.specs.Words.{handed}
 
 -- a list is the list of its elements
 listed : (l : List Float) → list (λ i. getD l i +0) (length l) ≡ l

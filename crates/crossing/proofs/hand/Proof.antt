@@ -1,9 +1,9 @@
--- `exports::hand` meets its contract: zeros, and the part over them where it fits. Assumes nothing.
+-- `crossing::hand` meets its contract: zeros, and the part over them where it fits. Assumes nothing.
 use native.Mathlib.Omega.{arith}
 use borrow.Author.Needs.{needs}
-use Rattle.exports.proofs.Copied.{fitting, too-long}
-use Rattle.exports.proofs.hand.Statement.{statement}
-use Rattle.exports.proofs.hand.Tie as tie
+use Rattle.crossing.proofs.Copied.{fitting, too-long}
+use Rattle.crossing.proofs.hand.Statement.{statement}
+use Rattle.crossing.proofs.hand.Tie as tie
 
 clear-floats-requires : tie.Need-clear-floats-requires
 clear-floats-requires c κs = omega arith

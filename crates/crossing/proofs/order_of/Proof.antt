@@ -1,7 +1,7 @@
--- `exports::order_of` meets its contract, by its test. Assumes nothing.
+-- `crossing::order_of` meets its contract, by its test. Assumes nothing.
 use borrow.Author.Tests.{eq-eqb, ne-eqb}
-use Rattle.exports.proofs.order_of.Statement.{statement}
-use Rattle.exports.proofs.order_of.Tie as tie
+use Rattle.crossing.proofs.order_of.Statement.{statement}
+use Rattle.crossing.proofs.order_of.Tie as tie
 
 returns : tie.Need-returns
 returns c = rw (eq-eqb _ _ (c .if1 .taken))
