@@ -5,6 +5,7 @@ use mathlib.Core.List.{List, [], map}
 use mathlib.Core.Option.{Option, none, some}
 use Prim.Native.Nat.{ℕ}
 use lib.ListN.{length, replicate}
+use Rattle.laws.specs.Numbered.{shapeFor}
 use Rattle.statement.specs.Input.{Matrix}
 use Rattle.statement.specs.Tasks.{splitOf}
 use Rattle.statement.specs.Supernodes.{updates}
@@ -21,12 +22,12 @@ use Rattle.statement.specs.declared.Stage.the-variants.{Analysed}
 use Rattle.tasks.specs.Given.{Parts}
 use Rattle.updates.specs.Scan.{triple}
 use Rattle.clearing.specs.Zeroed.{Zeroed}
-use Rattle.survey.specs.Laid.{structureFault, Laid, shapeFor}
+use Rattle.survey.specs.Laid.{structureFault, Laid}
 use Rattle.survey.specs.Settles.{Settles, Fills}
 use Rattle.survey.proofs.Clearing.{Lengths, blank-of}
 use Rattle.survey.proofs.Settling.{map-replicate, map-held, refused-out, refused-areas}
 use Rattle.survey.specs.declared.Findings.{Findings}
-use Rattle.analyse.specs.Lent.{ample, lent}
+use Rattle.analyse.specs.Lent.{ample, lentStructure}
 use Rattle.analyse.proofs.Boundless.{same-fault}
 
 -- ---- a refusal
@@ -131,8 +132,8 @@ module _ (M : Matrix) (cap : ℕ) (r : Room) (x : Outcome) where
       scratch (some a) R X e = unfold settled cleared structureRoom in refl
 
 -- the same room, however the lengths were come by
-pub lent-same : {p f s g t o w n u p′ f′ s′ g′ t′ o′ w′ n′ u′ : ℕ} → p ≡ p′ → f ≡ f′ → s ≡ s′ → g ≡ g′ → t ≡ t′ → o ≡ o′ → w ≡ w′ → n ≡ n′ → u ≡ u′ → lent p f s g t o w n u ≡ lent p′ f′ s′ g′ t′ o′ w′ n′ u′
-lent-same a b c d e f g h k = λ i. lent (a i) (b i) (c i) (d i) (e i) (f i) (g i) (h i) (k i)
+pub lent-same : {p f s g t o w n u p′ f′ s′ g′ t′ o′ w′ n′ u′ : ℕ} → p ≡ p′ → f ≡ f′ → s ≡ s′ → g ≡ g′ → t ≡ t′ → o ≡ o′ → w ≡ w′ → n ≡ n′ → u ≡ u′ → lentStructure p f s g t o w n u ≡ lentStructure p′ f′ s′ g′ t′ o′ w′ n′ u′
+lent-same a b c d e f g h k = λ i. lentStructure (a i) (b i) (c i) (d i) (e i) (f i) (g i) (h i) (k i)
 
 pub fills-at : (M : Matrix) (cap : ℕ) {r r′ : Room} {x : Outcome} {p f s g t o n : List ℕ} {u : List (List ℕ)} → r ≡ r′ → Fills (analyse M cap r) x p f s g t o n u → Fills (analyse M cap r′) x p f s g t o n u
 fills-at M cap e h = rw e at h

@@ -5,7 +5,7 @@ ghost use Rattle.statement.specs.Input.{matrix};
 ghost use Rattle.statement.specs.Calls.{analyse};
 ghost use Rattle.survey.specs.Laid.{Blank};
 ghost use Rattle.survey.specs.Settles.{Settles, Fills};
-ghost use Rattle.analyse.specs.Lent.{lent, ample};
+ghost use Rattle.analyse.specs.Lent.{lentStructure, ample};
 use answers::refused;
 use areas::clear_words;
 use clearing::clear_structure;
@@ -106,7 +106,7 @@ pub fn analyse(
     rows: &mut [usize],
     updates: &mut [[usize; 3]],
 ) -> Outcome
-    ensures { λ x. ⌜ Settles (analyse (matrix n (now («input_starts» .entry)) (now («input_rows» .entry)) (now («input_values» .entry))) cap (lent (length (now (permutation .entry))) (length (now (firsts .entry))) (length (now (starts .entry))) (length (now (groups .entry))) (length (now (tasks .entry))) (length (now (top .entry))) (length (now (words .entry))) (length (now (rows .entry))) (length (now (updates .entry))))) x (now (permutation .exit)) (now (firsts .exit)) (now (starts .exit)) (now (groups .exit)) (now (tasks .exit)) (now (top .exit)) (now (words .exit)) (now (rows .exit)) (now (updates .exit)) ⌝ }
+    ensures { λ x. ⌜ Settles (analyse (matrix n (now («input_starts» .entry)) (now («input_rows» .entry)) (now («input_values» .entry))) cap (lentStructure (length (now (permutation .entry))) (length (now (firsts .entry))) (length (now (starts .entry))) (length (now (groups .entry))) (length (now (tasks .entry))) (length (now (top .entry))) (length (now (words .entry))) (length (now (rows .entry))) (length (now (updates .entry))))) x (now (permutation .exit)) (now (firsts .exit)) (now (starts .exit)) (now (groups .exit)) (now (tasks .exit)) (now (top .exit)) (now (words .exit)) (now (rows .exit)) (now (updates .exit)) ⌝ }
 {
     clear_structure(
         permutation,

@@ -14,7 +14,7 @@ use Rattle.statement.specs.Input.{Matrix, WellFormed, pattern, +0}
 use Rattle.statement.specs.Fill.{entries}
 use Rattle.statement.specs.Postorder as postorder
 use Rattle.statement.specs.Shape.{Shape, supernodes, parentOf}
-use Rattle.statement.specs.Supernodes.{shapeOf, begins}
+use Rattle.statement.specs.Supernodes.{shapeOf}
 use Rattle.statement.specs.Run.{blank, start, run}
 use Rattle.statement.specs.Answers.{test, answered}
 use Rattle.statement.specs.Areas.{held}
@@ -25,14 +25,13 @@ use Rattle.statement.specs.declared.Order.{Order}
 use Rattle.statement.specs.declared.Order.the-variants.{Plain, Listed}
 use Rattle.statement.specs.declared.Stop.{Stop}
 use Rattle.laws.specs.Lower.{lowerValue}
-use Rattle.laws.specs.Numbered.{factored}
+use Rattle.laws.specs.Numbered.{factored, shapeFor}
 use Rattle.laws.proofs.Analysed.{length-q, up, built, ok, size}
 use Rattle.laws.proofs.Agree.{run-entries}
 use Rattle.laws.proofs.Listed.{order-exactly}
 use Rattle.laws.proofs.Listing.{Spans, shape-spans}
 use Rattle.laws.proofs.Ranks.{list-length, list-at}
-use Rattle.laws.proofs.Shapes.{supernodes-are}
-use Rattle.laws.proofs.Tally.{count-to}
+use Rattle.laws.proofs.Shapes.{supernodes-few}
 use Rattle.areas.proofs.Lists.{is-list}
 use Rattle.areas.proofs.Held.{held-over}
 use Rattle.step.specs.Laid as step
@@ -40,7 +39,7 @@ use Rattle.run.specs.Turn.{under, Due, fresh, Ran}
 use Rattle.run.proofs.Whole.{due-of, ran-of}
 use Rattle.order.proofs.Shaped.{shape-above}
 use Rattle.order.proofs.Shaped as parents
-use Rattle.ready.specs.Known.{Structured, Laid, shapeFor, offsetsAt, parentsAt, startsAt, rowsAt}
+use Rattle.ready.specs.Known.{Structured, Laid, offsetsAt, parentsAt, startsAt, rowsAt}
 use Rattle.elimination.specs.Filled.{ran, orderTest, pivotTest, Filled, isPlain, zeroFloats}
 
 no-position : (f : Option ℕ) → wrongPosition f ≡ none → f ≡ none
@@ -85,7 +84,7 @@ module _ (M : Matrix) {ns total : ℕ} {permutation firsts starts groups tasks n
 
   few : supernodes S ≤ M .n
   unfolding shapeOf
-  few = omega (arith, supernodes-are (factored (pattern M) (M .n)) (M .n) (up M w), count-to (begins (factored (pattern M) (M .n)) (M .n)) (M .n))
+  few = omega (arith, supernodes-few (factored (pattern M) (M .n)) (M .n) (up M w))
 
   -- ---- the order
 

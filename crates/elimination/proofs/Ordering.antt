@@ -19,7 +19,7 @@ use Rattle.statement.specs.declared.Answer.{Answer}
 use Rattle.statement.specs.declared.Answer.the-variants.{Accepted}
 use Rattle.statement.specs.declared.Order.{Order}
 use Rattle.statement.specs.declared.Stop.{Stop}
-use Rattle.laws.specs.Numbered.{factored}
+use Rattle.laws.specs.Numbered.{factored, shapeFor}
 use Rattle.laws.proofs.Analysed.{up}
 use Rattle.laws.proofs.Postorder.{pos}
 use Rattle.laws.proofs.Ranks.{list-length}
@@ -27,7 +27,7 @@ use Rattle.areas.proofs.Tail.{tail-lent}
 use Rattle.measure.proofs.Stages.{or-first, or-next}
 use Rattle.order.specs.Waiting.{Above, Of}
 use Rattle.order.proofs.Shaped.{shape-above, shape-of}
-use Rattle.ready.specs.Known.{Known, shapeFor}
+use Rattle.ready.specs.Known.{Known}
 use Rattle.elimination.specs.Filled.{orderTest, pivotTest, Filled}
 
 answered-none : (f : Option ℕ) → answered (wrongPosition f) ≡ Accepted → wrongPosition f ≡ none

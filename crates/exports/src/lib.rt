@@ -4,7 +4,7 @@ ghost use Rattle.statement.specs.Input.{matrix};
 ghost use Rattle.statement.specs.Calls.{analyse, factor};
 ghost use Rattle.statement.specs.Solve.{solve, view};
 ghost use Rattle.laws.specs.Lent.{lent};
-ghost use Rattle.analyse.specs.Lent as structureLent;
+ghost use Rattle.analyse.specs.Lent.{lentStructure};
 ghost use Rattle.factor.specs.Filled.{lentAll};
 ghost use Rattle.crossing.specs.Words.{orderSaid, stopSaid, recordSaid};
 ghost use Rattle.exports.specs.Crossed.{AnalyseCrossed, FactorCrossed, SolveCrossed, ColumnCrossed};
@@ -40,7 +40,7 @@ pub extern "C" fn nosebagged_analyse(
     updates: &mut [[usize; 3]],
     results: &mut [usize; 12],
 ) -> usize
-    ensures { λ r. ⌜ AnalyseCrossed (analyse (matrix n (now («input_starts» .entry)) (now («input_rows» .entry)) (now («input_values» .entry))) cap (structureLent.lent (length (now (permutation .entry))) (length (now (firsts .entry))) (length (now (starts .entry))) (length (now (groups .entry))) (length (now (tasks .entry))) (length (now (top .entry))) (length (now (words .entry))) (length (now (rows .entry))) (length (now (updates .entry))))) r (now (results .exit)) (now (permutation .exit)) (now (firsts .exit)) (now (starts .exit)) (now (groups .exit)) (now (tasks .exit)) (now (top .exit)) (now (words .exit)) (now (rows .exit)) (now (updates .exit)) ⌝ }
+    ensures { λ r. ⌜ AnalyseCrossed (analyse (matrix n (now («input_starts» .entry)) (now («input_rows» .entry)) (now («input_values» .entry))) cap (lentStructure (length (now (permutation .entry))) (length (now (firsts .entry))) (length (now (starts .entry))) (length (now (groups .entry))) (length (now (tasks .entry))) (length (now (top .entry))) (length (now (words .entry))) (length (now (rows .entry))) (length (now (updates .entry))))) r (now (results .exit)) (now (permutation .exit)) (now (firsts .exit)) (now (starts .exit)) (now (groups .exit)) (now (tasks .exit)) (now (top .exit)) (now (words .exit)) (now (rows .exit)) (now (updates .exit)) ⌝ }
 {
     let found = analyse(
         n,

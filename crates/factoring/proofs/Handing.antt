@@ -6,6 +6,7 @@ use Prim.Native.Nat.{ℕ, _+_, _*_, _-_, _≤_}
 use native.Mathlib.Omega.{arith}
 use lib.ListN.{length, replicate}
 use lib.Ieee.{Float}
+use Rattle.laws.specs.Numbered.{shapeFor}
 use Rattle.statement.specs.Input.{Matrix, pattern, rowsLength, +0}
 use Rattle.statement.specs.Fill.{entries}
 use Rattle.statement.specs.Postorder as postorder
@@ -16,7 +17,7 @@ use Rattle.statement.specs.declared.Room.{Room}
 use Rattle.laws.proofs.Stages.{short-passed}
 use Rattle.updates.specs.Scan.{triple}
 use Rattle.clearing.specs.Zeroed.{noTriple}
-use Rattle.survey.specs.Laid.{Laid, shapeFor}
+use Rattle.survey.specs.Laid.{Laid}
 use Rattle.survey.specs.declared.Findings.{Findings}
 use Rattle.survey.proofs.Surveying.{long}
 use Rattle.survey.proofs.Reading.{held-is, enough-words}

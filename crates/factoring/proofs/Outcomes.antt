@@ -9,6 +9,7 @@ use native.Mathlib.Omega.{arith}
 use lib.Dec.{ltb}
 use lib.ListN.{length}
 use lib.Ieee.{Float}
+use Rattle.laws.specs.Numbered.{shapeFor}
 use Rattle.statement.specs.Input.{Matrix, +0}
 use Rattle.statement.specs.Shape.{supernodes}
 use Rattle.statement.specs.Tasks.{splitOf}
@@ -30,7 +31,7 @@ use Rattle.tasks.specs.Given.{Parts}
 use Rattle.updates.specs.Scan.{triple}
 use Rattle.measure.specs.Sized.{measureFault}
 use Rattle.measure.proofs.Stages.{or-first, or-next}
-use Rattle.survey.specs.Laid.{structureFault, Laid, shapeFor}
+use Rattle.survey.specs.Laid.{structureFault, Laid}
 use Rattle.survey.specs.declared.Findings.{Findings}
 use Rattle.survey.proofs.Zeros.{zeros-length}
 use Rattle.survey.proofs.Settling.{map-held, refused-out}

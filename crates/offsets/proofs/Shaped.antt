@@ -9,11 +9,11 @@ use lib.ListN.{length, getD, length-append, List·getD-append}
 use Rattle.statement.specs.Lists.{joined}
 use Rattle.statement.specs.Fill.{fill}
 use Rattle.statement.specs.Shape.{supernodes, first, height}
-use Rattle.statement.specs.Supernodes.{shapeOf, begins}
+use Rattle.statement.specs.Supernodes.{shapeOf}
 use Rattle.laws.proofs.Tally.{count-to}
 use Rattle.laws.proofs.Select.{select-length}
 use Rattle.laws.proofs.Ranks.{list-length, list-at, joined-grows}
-use Rattle.laws.proofs.Shapes.{N, f, rows, rows-are, supernodes-are, firsts-length, shape-built}
+use Rattle.laws.proofs.Shapes.{N, f, rows, rows-are, firsts-length, shape-built, supernodes-few}
 use Rattle.offsets.specs.Lent.{Rising, Of}
 use Rattle.offsets.proofs.Sums.{held-of}
 
@@ -62,4 +62,4 @@ module _ (p : ℕ → ℕ → Bool) (n : ℕ) (upper : (i k : ℕ) → T (p i k)
   }
     where
       fewer : supernodes (shapeOf p n) ≤ n
-      fewer = unfold shapeOf in omega (arith, supernodes-are p n upper, count-to (begins p n) n)
+      fewer = unfold shapeOf in omega (arith, supernodes-few p n upper)

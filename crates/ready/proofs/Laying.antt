@@ -13,20 +13,19 @@ use Rattle.statement.specs.Lists.{list}
 use Rattle.statement.specs.Input.{Matrix, pattern, rowsLength}
 use Rattle.statement.specs.Fill.{parent}
 use Rattle.statement.specs.Shape.{supernodes, offset, parentOf}
-use Rattle.statement.specs.Supernodes.{shapeOf, begins}
-use Rattle.laws.specs.Numbered.{factored}
+use Rattle.statement.specs.Supernodes.{shapeOf}
+use Rattle.laws.specs.Numbered.{factored, shapeFor}
 use Rattle.laws.proofs.Input.{upper}
 use Rattle.laws.proofs.FactorTree.{upper′}
 use Rattle.laws.proofs.Postorder.{pos}
 use Rattle.laws.proofs.Ranks.{list-length, list-at}
-use Rattle.laws.proofs.Shapes.{supernodes-are}
-use Rattle.laws.proofs.Tally.{count-to}
+use Rattle.laws.proofs.Shapes.{supernodes-few}
 use Rattle.areas.proofs.Tail.{tail-lent, tail-back, back-length, tail-length}
 use Rattle.lower.specs.Entries.{Lowered, Sited}
 use Rattle.lower.proofs.Bridge.{sited}
 use Rattle.offsets.specs.Lent.{Rising, Of}
 use Rattle.offsets.proofs.Shaped.{shape-of, shape-rising}
-use Rattle.ready.specs.Known.{Known, Laid, shapeFor, offsetsAt, parentsAt, startsAt, rowsAt}
+use Rattle.ready.specs.Known.{Known, Laid, offsetsAt, parentsAt, startsAt, rowsAt}
 use Rattle.ready.proofs.Wrote.{Wrote, wrote, wrote-part, wrote-above}
 
 -- a part has room for what is not past its end
@@ -71,7 +70,7 @@ module _ {M : Matrix} {ns : ℕ} {permutation firsts starts tasks : List ℕ} (k
   fewer = omega (arith, k .number, few)
     where
       few : supernodes (shapeFor M) ≤ M .n
-      few = unfold shapeOf in omega (arith, supernodes-are p (M .n) u, count-to (begins p (M .n)) (M .n))
+      few = unfold shapeOf in omega (arith, supernodes-few p (M .n) u)
 
   pub sited-in : Sited (M .n) (M .starts) (M .rows) permutation tasks
   sited-in = sited (M .n) (M .starts) (M .rows) (M .values) (k .well) permutation (k .orderRest) tasks _ (k .orderIs) (k .tasksAre)

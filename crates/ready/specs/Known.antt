@@ -8,15 +8,12 @@ use Rattle.statement.specs.Lists.{list}
 use Rattle.statement.specs.Input.{Matrix, WellFormed, pattern}
 use Rattle.statement.specs.Fill.{parent, entries}
 use Rattle.statement.specs.Postorder as postorder
-use Rattle.statement.specs.Shape.{Shape, supernodes, offset, parentOf}
+use Rattle.statement.specs.Shape.{supernodes, offset, parentOf}
 use Rattle.statement.specs.Supernodes.{updates, updateStarts}
-use Rattle.laws.specs.Numbered.{shape}
+use Rattle.laws.specs.Numbered.{shapeFor}
 use Rattle.laws.proofs.Postorder.{pos}
 use Rattle.lower.specs.Entries.{Lowered}
 use Rattle.updates.specs.Scan.{triple}
-
-abbrev pub shapeFor : Matrix → Shape
-shapeFor M = shape (pattern M) (M .n)
 
 -- ns supernodes: permutation, first columns, row starts, and in tasks the places of the columns and then the supernodal parents
 pub record Known (M : Matrix) (ns : ℕ) (permutation firsts starts tasks : List ℕ) : Type 0 where

@@ -10,6 +10,7 @@ use lib.ListN.{length, getD, set, take, drop}
 use lib.Seq.{drop-set-lt, getD-set-same, getD-set-other, getD-take, getD-drop}
 use lib.Ieee.{Float}
 use borrow.Author.Tests.{eq-eqb, ne-eqb}
+use Rattle.laws.specs.Lent.{laid}
 use Rattle.statement.specs.Lists.{bit}
 use Rattle.statement.specs.Shape.{Shape, parentOf, rowsOf}
 use Rattle.statement.specs.Rules.{Out, made, broke, step}
@@ -17,7 +18,6 @@ use Rattle.statement.specs.Run.{State, blocked, fateOf, settle, fate}
 use Rattle.laws.proofs.Loops.{blocked-cons}
 use Rattle.step.specs.declared.StepAnswer.{StepAnswer}
 use Rattle.step.specs.declared.StepAnswer.the-variants.{Made, Broke}
-use Rattle.step.specs.Ready.{lent}
 use Rattle.step.proofs.Link.{stepped-alike}
 use Rattle.step.specs.Answer.{answerOf, leaves, Stepped}
 use Rattle.statement.specs.declared.Factored.{Factored}
@@ -144,10 +144,10 @@ module _ (n : ℕ) (F St R : List ℕ) (ns a : ℕ) (groups : List ℕ) (upd : L
 
   module _ (z : getD words J 0 ≡ 0) (words′ : List ℕ) (floats′ values′ : List Float) (f : take a floats′ ≡ take a floats) (w : take (n + 1) words′ ≡ take (n + 1) words)
       (d : drop (n + n + 1) words′ ≡ drop (n + n + 1) words) (l : length words′ ≡ length words) (m : length values′ ≡ length values) where
-    whole : (x r : StepAnswer) → x ≡ r → Stepped (lent n F St R) A J values values′ x → Stepped S A J values values′ r
-    whole x r h q = subst (Stepped S A J values values′) h (stepped-alike (lent n F St R) S J (record { firsts = λ K h. refl; rows = λ K h. unfold rowsOf in refl }) A values values′ x q)
+    whole : (x r : StepAnswer) → x ≡ r → Stepped (laid n F St R) A J values values′ x → Stepped S A J values values′ r
+    whole x r h q = subst (Stepped S A J values values′) h (stepped-alike (laid n F St R) S J (record { firsts = λ K h. refl; rows = λ K h. unfold rowsOf in refl }) A values values′ x q)
 
-    pub finished : (x : StepAnswer) → x ≡ Made → Stepped (lent n F St R) A J values values′ x → Turned S A ns J a least least words words′ floats floats′ values values′
+    pub finished : (x : StepAnswer) → x ≡ Made → Stepped (laid n F St R) A J values values′ x → Turned S A ns J a least least words words′ floats floats′ values values′
     finished x h q =
         record {
           next = λ s i. done S ns J k up A s values least words i words′ (n + 1) (omega (arith, t .few)) w z values′ (whole x Made h q);
@@ -156,7 +156,7 @@ module _ (n : ℕ) (F St R : List ℕ) (ns a : ℕ) (groups : List ℕ) (upd : L
           sized = m;
         }
 
-    pub broken : (x : StepAnswer) (c : Factored) (r : ℕ) (words″ : List ℕ) → r ≡ min (c .0) least → words″ ≡ set words′ p 1 → x ≡ Broke c → Stepped (lent n F St R) A J values values′ x →
+    pub broken : (x : StepAnswer) (c : Factored) (r : ℕ) (words″ : List ℕ) → r ≡ min (c .0) least → words″ ≡ set words′ p 1 → x ≡ Broke c → Stepped (laid n F St R) A J values values′ x →
         Turned S A ns J a least r words words″ floats floats′ values values′
     broken x c r words″ e₁ e₂ h q =
         record {

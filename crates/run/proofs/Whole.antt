@@ -6,6 +6,7 @@ use native.Mathlib.Omega.{arith}
 use lib.ListN.{length, getD, take, drop, length-append, length-drop}
 use lib.Seq.{getD-drop}
 use lib.Ieee.{Float}
+use Rattle.laws.specs.Lent.{laid}
 use Rattle.statement.specs.Lists.{joined}
 use Rattle.statement.specs.Shape.{Shape, supernodes, parentOf, rowsOf, offset}
 use Rattle.statement.specs.Supernodes.{updatesOf, updateStarts}
@@ -16,7 +17,6 @@ use Rattle.laws.proofs.Ranks.{list-length}
 use Rattle.laws.proofs.Stretches.{offset-mono}
 use Rattle.laws.proofs.Listing.{Spans}
 use Rattle.laws.proofs.Agree.{Alike, offset-agree, run-agree}
-use Rattle.step.specs.Ready.{lent}
 use Rattle.step.specs.Laid.{Laid}
 use Rattle.step.proofs.Link as link
 use Rattle.run.specs.Turn.{under, Due, fresh, Ran}
@@ -37,7 +37,7 @@ module _ (S : Shape) (b : Built S) (s : Spans S) (F St R U : List ℕ) (upd : Li
   due-of a ob ab rb pb words floats vlen few less past room offs parents top lower pattern values work =
       record {
         at = λ J h.
-            let T : Shape = lent (S .n) F St R in
+            let T : Shape = laid (S .n) F St R in
             let same : Alike T S J = link.alike S b s F St R U upd l J h in
             record {
               shape = link.rows-of S b s F St R U upd l J h few;

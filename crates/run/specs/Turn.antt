@@ -4,11 +4,12 @@ use mathlib.Core.List.{List, []}
 use Prim.Native.Nat.{ℕ, suc, _+_, _≤_, _<_}
 use lib.ListN.{length, getD, take, drop}
 use lib.Ieee.{Float}
+use Rattle.laws.specs.Lent.{laid}
 use Rattle.statement.specs.Lists.{bit}
 use Rattle.statement.specs.Shape.{Shape, offset}
 use Rattle.statement.specs.Run.{State, blocked, settle, fate, run}
 use Rattle.laws.specs.Lower.{Lower, Pattern}
-use Rattle.step.specs.Ready.{lent, Rows, Listed, Offsets}
+use Rattle.step.specs.Ready.{Rows, Listed, Offsets}
 
 -- for the supernode J
 pub record At (S : Shape) (J a : ℕ) (groups : List ℕ) (upd : List (List ℕ)) (ob ab rb : ℕ) (words : List ℕ) (floats : List Float) (vlen : ℕ) : Type 0 where
@@ -29,7 +30,7 @@ under n firsts starts rows parents = record { n = n; firsts = firsts; starts = s
 
 -- for any of the first ns supernodes
 pub record Due (n : ℕ) (firsts starts rows : List ℕ) (ns a : ℕ) (groups : List ℕ) (upd : List (List ℕ)) (ob ab rb pb : ℕ) (words : List ℕ) (floats : List Float) (vlen : ℕ) : Type 0 where
-  pub at : (J : ℕ) → J < ns → At (lent n firsts starts rows) J a groups upd ob ab rb words floats vlen
+  pub at : (J : ℕ) → J < ns → At (laid n firsts starts rows) J a groups upd ob ab rb words floats vlen
   pub past : n + n + 1 ≤ pb
   pub room : pb + ns ≤ length words
   pub few : ns ≤ n

@@ -3,9 +3,9 @@ ghost use mathlib.Core.Path.{_≡_};
 ghost use mathlib.Core.Bool.{false, cond};
 ghost use Prim.Native.Nat.{ℕ, _+_, _≤_, _<_, min};
 ghost use lib.ListN.{length, getD, set, take, drop};
+ghost use Rattle.laws.specs.Lent.{laid};
 ghost use Rattle.statement.specs.Lists.{list as names};
 ghost use Rattle.laws.specs.Lower.{lowerValue};
-ghost use Rattle.step.specs.Ready.{lent};
 ghost use Rattle.step.specs.Answer.{Stepped};
 ghost use Rattle.run.specs.Turn.{At, under, Due, Turned, Ran};
 use statement::Factored;
@@ -29,8 +29,8 @@ fn one(
     floats: &mut [f64],
     values: &mut [f64],
 ) -> StepAnswer
-    requires { ⌜ At (lent n (now first) (now starts) (now rows)) j a (now groups) (now upd) ob ab rb (now words) (now floats) (length (now values)) ⌝ }
-    ensures { λ r. ⌜ Stepped (lent n (now (first .entry)) (now (starts .entry)) (now (rows .entry))) (lowerValue (drop ab (now (words .entry))) (drop rb (now (words .entry))) (take a (now (floats .entry)))) j (now (values .entry)) (now (values .exit)) r ⌝ }
+    requires { ⌜ At (laid n (now first) (now starts) (now rows)) j a (now groups) (now upd) ob ab rb (now words) (now floats) (length (now values)) ⌝ }
+    ensures { λ r. ⌜ Stepped (laid n (now (first .entry)) (now (starts .entry)) (now (rows .entry))) (lowerValue (drop ab (now (words .entry))) (drop rb (now (words .entry))) (take a (now (floats .entry)))) j (now (values .entry)) (now (values .exit)) r ⌝ }
     ensures { λ r. ⌜ (take a (now (floats .exit)) ≡ take a (now (floats .entry))) × (take (n + 1) (now (words .exit)) ≡ take (n + 1) (now (words .entry))) × (drop (n + n + 1) (now (words .exit)) ≡ drop (n + n + 1) (now (words .entry))) ⌝ }
 {
     let r0 = starts[j];

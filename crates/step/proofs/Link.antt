@@ -10,6 +10,7 @@ use native.Mathlib.Decide.{ℕ-discrete, decLt}
 use lib.ListN.{length, getD, take, drop, length-append, length-map, List·getD-append, List·getD-map}
 use lib.Seq.{getD-take, getD-drop, take-append-le}
 use lib.Ieee.{Float}
+use Rattle.laws.specs.Lent.{laid}
 use Rattle.statement.specs.declared.Update.{Update}
 use Rattle.statement.specs.Lists.{has, place, joined}
 use Rattle.statement.specs.Shape.{Shape, supernodes, first, width, height, parentOf, rowsOf, offset}
@@ -26,7 +27,7 @@ use Rattle.laws.proofs.Listing.{Spans, below-most, lowOf, highOf, Each, each-of
 use Rattle.laws.proofs.Agree.{Alike, offset-agree, stretch-agree, put-agree, zeros-agree, step-agree}
 use Rattle.areas.specs.Touch.{Touched}
 use Rattle.areas.proofs.Lists.{getD-any}
-use Rattle.step.specs.Ready.{lent, row, Rows, source, low, high, triple, Listed}
+use Rattle.step.specs.Ready.{row, Rows, source, low, high, triple, Listed}
 use Rattle.step.specs.Laid.{Laid}
 use Rattle.step.specs.Answer.{answerOf, leaves, Stepped, Ready}
 use Rattle.step.specs.declared.StepAnswer.{StepAnswer}
@@ -207,7 +208,7 @@ module _ (S : Shape) (b : Built S) (s : Spans S) (F St R U : List ℕ) (upd : Li
   start-at : (K : ℕ) → K ≤ supernodes S → getD St K 0 ≡ getD (S .starts) K 0
   start-at K k = ap (λ x. getD x K 0) (l .startsAre) ∙ List·getD-append (S .starts) (l .startsRest) 0 K (omega (arith, s .many))
 
-  pub alike : Alike (lent (S .n) F St R) S J
+  pub alike : Alike (laid (S .n) F St R) S J
   unfolding rowsOf
   alike =
       record {
@@ -220,9 +221,9 @@ module _ (S : Shape) (b : Built S) (s : Spans S) (F St R U : List ℕ) (upd : Li
   longer : (x y z : List ℕ) → x ≡ y ++ z → length y ≤ length x
   longer x y z e = omega (arith, ap length e, length-append y z)
 
-  pub rows-of : S .n ≤ 32768 → Rows (lent (S .n) F St R) (suc J)
+  pub rows-of : S .n ≤ 32768 → Rows (laid (S .n) F St R) (suc J)
   rows-of few =
-      rows-alike (lent (S .n) F St R) S J alike b s h few refl (omega (arith, longer F (S .firsts) (l .firstsRest) (l .firstsAre)))
+      rows-alike (laid (S .n) F St R) S J alike b s h few refl (omega (arith, longer F (S .firsts) (l .firstsRest) (l .firstsAre)))
       (omega (arith, longer St (S .starts) (l .startsRest) (l .startsAre), s .many)) (λ K k. start-at K (omega arith)) (longer R (S .rows) (l .rowsRest) (l .rowsAre))
 
   -- where J's updates start and end
@@ -335,20 +336,20 @@ module _ (S : Shape) (b : Built S) (s : Spans S) (F St R U : List ℕ) (upd : Li
   pub ready-of : (a : ℕ) (offs starts arows : List ℕ) (floats : List Float) (vlen : ℕ) (pl pl′ : List ℕ) → S .n ≤ 32768 → J < length offs →
       ((K : ℕ) → K ≤ J → getD offs K 0 ≡ offset S K) → Lower starts arows (take a floats) (S .n) → Pattern S J starts arows → offset S (suc J) ≤ vlen → a + S .n ≤ length floats → S .n ≤ length pl →
       Touched 0 pl pl′ (getD St (J + 1) 0 - getD St J 0) (λ p. getD R (getD St J 0 + p) 0) (λ p. p) →
-      Ready (lent (S .n) F St R) J a offs upd (getD U J 0) (getD U (J + 1) 0) starts arows floats vlen pl′
+      Ready (laid (S .n) F St R) J a offs upd (getD U J 0) (getD U (J + 1) 0) starts arows floats vlen pl′
   ready-of a offs starts arows floats vlen pl pl′ few room at lower pattern values work places t =
       record {
         shape = rows-of few;
-        updates = listed-alike (lent (S .n) F St R) S J alike upd (getD U J 0) (getD U (J + 1) 0) listed-areas;
-        offsets = record { room = room; at = λ K k. at K k ∙ sym (offset-agree (lent (S .n) F St R) S J alike K (omega arith)) };
+        updates = listed-alike (laid (S .n) F St R) S J alike upd (getD U J 0) (getD U (J + 1) 0) listed-areas;
+        offsets = record { room = room; at = λ K k. at K k ∙ sym (offset-agree (laid (S .n) F St R) S J alike K (omega arith)) };
         lower = lower;
-        pattern = pattern-alike (lent (S .n) F St R) S J alike starts arows pattern;
-        values = omega (arith, offset-agree (lent (S .n) F St R) S J alike (suc J) (omega arith));
+        pattern = pattern-alike (laid (S .n) F St R) S J alike starts arows pattern;
+        values = omega (arith, offset-agree (laid (S .n) F St R) S J alike (suc J) (omega arith));
         work = work;
-        placed = λ p q. ap (λ x. getD pl′ x 0) (sym (row-is (lent (S .n) F St R) (rows-of few) J p (le-refl (suc J)) q)) ∙ t .inside p (omega (arith, height-code (lent (S .n) F St R) (rows-of few) J (le-refl (suc J))));
+        placed = λ p q. ap (λ x. getD pl′ x 0) (sym (row-is (laid (S .n) F St R) (rows-of few) J p (le-refl (suc J)) q)) ∙ t .inside p (omega (arith, height-code (laid (S .n) F St R) (rows-of few) J (le-refl (suc J))));
         places = omega (arith, t .size);
       }
 
   -- what the step leaves, at the whole structure
-  pub stepped-of : (A : ℕ → ℕ → Float) (old new : List Float) (r : StepAnswer) → Stepped (lent (S .n) F St R) A J old new r → Stepped S A J old new r
-  stepped-of A old new r = stepped-alike (lent (S .n) F St R) S J alike A old new r
+  pub stepped-of : (A : ℕ → ℕ → Float) (old new : List Float) (r : StepAnswer) → Stepped (laid (S .n) F St R) A J old new r → Stepped S A J old new r
+  stepped-of A old new r = stepped-alike (laid (S .n) F St R) S J alike A old new r

@@ -15,10 +15,6 @@ use Rattle.statement.specs.Input.{+0}
 use Rattle.statement.specs.Rules.{earlier}
 use Rattle.laws.specs.Lower.{lowerValue}
 
--- the lent lists as a structure; the step asks nothing of the parents
-abbrev pub lent : ℕ → List ℕ → List ℕ → List ℕ → Shape
-lent n firsts starts rows = record { n = n; firsts = firsts; starts = starts; rows = rows; parents = [] }
-
 -- row p of the supernode K
 abbrev pub row : Shape → ℕ → ℕ → ℕ
 row S K p = getD (rowsOf S K) p 0

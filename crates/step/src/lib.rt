@@ -3,13 +3,14 @@ ghost use mathlib.Core.Path.{_≡_};
 ghost use Prim.Native.Nat.{ℕ, suc, _+_, _-_, _<_, _≤_};
 ghost use lib.ListN.{getD, length, take, drop};
 ghost use lib.Ieee.{nan, binary64, sub};
+ghost use Rattle.laws.specs.Lent.{laid};
 ghost use Rattle.statement.specs.Shape.{width};
 ghost use Rattle.statement.specs.Rules.{dot};
 ghost use Rattle.laws.specs.Lower.{lowerValue, Lower, Pattern};
 ghost use Rattle.areas.specs.Touch.{Touched};
 ghost use Rattle.panel.specs.View.{cell};
 ghost use Rattle.step.specs.Answer.{Assembled, Ready, Stepped};
-ghost use Rattle.step.specs.Ready.{lent, Rows, Listed, Offsets, Own, Took, Gathered, Fresh, Scattered, FromA};
+ghost use Rattle.step.specs.Ready.{Rows, Listed, Offsets, Own, Took, Gathered, Fresh, Scattered, FromA};
 ghost use Rattle.step.specs.Update.{spotOf, Target, Source, Updated};
 ghost use Rattle.step.specs.Spread.{through, Spread};
 use statement::Factored;
@@ -145,12 +146,12 @@ fn one_update(
     place: &[usize],
     work: &mut [f64],
 )
-    requires { ⌜ Rows (lent n (now first) (now starts) (now rows)) (suc j) ⌝ }
-    requires { ⌜ Listed (lent n (now first) (now starts) (now rows)) j (now upd) u0 u1 ⌝ }
-    requires { ⌜ Offsets (lent n (now first) (now starts) (now rows)) j (now offs) ⌝ }
-    requires { ⌜ Own (lent n (now first) (now starts) (now rows)) j off m w (now place) (length (now values)) (length (now work)) ⌝ }
+    requires { ⌜ Rows (laid n (now first) (now starts) (now rows)) (suc j) ⌝ }
+    requires { ⌜ Listed (laid n (now first) (now starts) (now rows)) j (now upd) u0 u1 ⌝ }
+    requires { ⌜ Offsets (laid n (now first) (now starts) (now rows)) j (now offs) ⌝ }
+    requires { ⌜ Own (laid n (now first) (now starts) (now rows)) j off m w (now place) (length (now values)) (length (now work)) ⌝ }
     requires { ⌜ (u0 ≤ u) × (u < u1) ⌝ }
-    ensures { λ r. ⌜ Took (lent n (now (first .entry)) (now (starts .entry)) (now (rows .entry))) j (now (upd .entry)) u (now (place .entry)) (now (values .entry)) (now (values .exit)) ⌝ }
+    ensures { λ r. ⌜ Took (laid n (now (first .entry)) (now (starts .entry)) (now (rows .entry))) j (now (upd .entry)) u (now (place .entry)) (now (values .entry)) (now (values .exit)) ⌝ }
 {
     let t = upd[u];
     let k = t[0];
@@ -181,11 +182,11 @@ fn updates(
     place: &[usize],
     work: &mut [f64],
 )
-    requires { ⌜ Rows (lent n (now first) (now starts) (now rows)) (suc j) ⌝ }
-    requires { ⌜ Listed (lent n (now first) (now starts) (now rows)) j (now upd) u0 u1 ⌝ }
-    requires { ⌜ Offsets (lent n (now first) (now starts) (now rows)) j (now offs) ⌝ }
-    requires { ⌜ Own (lent n (now first) (now starts) (now rows)) j off m w (now place) (length (now values)) (length (now work)) ⌝ }
-    ensures { λ r. ⌜ Gathered (lent n (now (first .entry)) (now (starts .entry)) (now (rows .entry))) j (now (values .entry)) (now (values .exit)) ⌝ }
+    requires { ⌜ Rows (laid n (now first) (now starts) (now rows)) (suc j) ⌝ }
+    requires { ⌜ Listed (laid n (now first) (now starts) (now rows)) j (now upd) u0 u1 ⌝ }
+    requires { ⌜ Offsets (laid n (now first) (now starts) (now rows)) j (now offs) ⌝ }
+    requires { ⌜ Own (laid n (now first) (now starts) (now rows)) j off m w (now place) (length (now values)) (length (now work)) ⌝ }
+    ensures { λ r. ⌜ Gathered (laid n (now (first .entry)) (now (starts .entry)) (now (rows .entry))) j (now (values .entry)) (now (values .exit)) ⌝ }
 {
     let mut u = u0;
     while u < u1 {
@@ -228,12 +229,12 @@ fn from_a_column(
     avals: &[f64],
     place: &[usize],
 )
-    requires { ⌜ Rows (lent n (now first) (now starts) (now rows)) (suc j) ⌝ }
+    requires { ⌜ Rows (laid n (now first) (now starts) (now rows)) (suc j) ⌝ }
     requires { ⌜ Lower (now astarts) (now arows) (now avals) n ⌝ }
-    requires { ⌜ Pattern (lent n (now first) (now starts) (now rows)) j (now astarts) (now arows) ⌝ }
-    requires { ⌜ Fresh (lent n (now first) (now starts) (now rows)) j m w f (now place) (length (now own)) ⌝ }
+    requires { ⌜ Pattern (laid n (now first) (now starts) (now rows)) j (now astarts) (now arows) ⌝ }
+    requires { ⌜ Fresh (laid n (now first) (now starts) (now rows)) j m w f (now place) (length (now own)) ⌝ }
     requires { ⌜ c < w ⌝ }
-    ensures { λ r. ⌜ Scattered (lent n (now (first .entry)) (now (starts .entry)) (now (rows .entry))) j (now (astarts .entry)) (now (arows .entry)) (now (avals .entry)) (now (place .entry)) c (now (own .entry)) (now (own .exit)) ⌝ }
+    ensures { λ r. ⌜ Scattered (laid n (now (first .entry)) (now (starts .entry)) (now (rows .entry))) j (now (astarts .entry)) (now (arows .entry)) (now (avals .entry)) (now (place .entry)) c (now (own .entry)) (now (own .exit)) ⌝ }
 {
     let k = f + c;
     let t0 = astarts[k];
@@ -258,11 +259,11 @@ fn from_a(
     avals: &[f64],
     place: &[usize],
 )
-    requires { ⌜ Rows (lent n (now first) (now starts) (now rows)) (suc j) ⌝ }
+    requires { ⌜ Rows (laid n (now first) (now starts) (now rows)) (suc j) ⌝ }
     requires { ⌜ Lower (now astarts) (now arows) (now avals) n ⌝ }
-    requires { ⌜ Pattern (lent n (now first) (now starts) (now rows)) j (now astarts) (now arows) ⌝ }
-    requires { ⌜ Fresh (lent n (now first) (now starts) (now rows)) j m w f (now place) (length (now own)) ⌝ }
-    ensures { λ r. ⌜ FromA (lent n (now (first .entry)) (now (starts .entry)) (now (rows .entry))) j (now (astarts .entry)) (now (arows .entry)) (now (avals .entry)) (width (lent n (now (first .entry)) (now (starts .entry)) (now (rows .entry))) j) (now (own .entry)) (now (own .exit)) ⌝ }
+    requires { ⌜ Pattern (laid n (now first) (now starts) (now rows)) j (now astarts) (now arows) ⌝ }
+    requires { ⌜ Fresh (laid n (now first) (now starts) (now rows)) j m w f (now place) (length (now own)) ⌝ }
+    ensures { λ r. ⌜ FromA (laid n (now (first .entry)) (now (starts .entry)) (now (rows .entry))) j (now (astarts .entry)) (now (arows .entry)) (now (avals .entry)) (width (laid n (now (first .entry)) (now (starts .entry)) (now (rows .entry))) j) (now (own .entry)) (now (own .exit)) ⌝ }
 {
     panels::clear(own, panel::column_start(m, w));
     let mut c = 0;
@@ -309,12 +310,12 @@ fn assemble(
     floats: &mut [f64],
     place: &[usize],
 )
-    requires { ⌜ Rows (lent n (now first) (now starts) (now rows)) (suc j) ⌝ }
-    requires { ⌜ Listed (lent n (now first) (now starts) (now rows)) j (now upd) u0 u1 ⌝ }
-    requires { ⌜ Offsets (lent n (now first) (now starts) (now rows)) j (now offs) ⌝ }
-    requires { ⌜ (Lower (now astarts) (now arows) (take a (now floats)) n) × (Pattern (lent n (now first) (now starts) (now rows)) j (now astarts) (now arows)) ⌝ }
-    requires { ⌜ (Own (lent n (now first) (now starts) (now rows)) j off m w (now place) (length (now values)) (length (now floats) - a)) × (f ≡ getD (now first) j 0) × (a ≤ length (now floats)) ⌝ }
-    ensures { λ r. ⌜ Assembled (lent n (now (first .entry)) (now (starts .entry)) (now (rows .entry))) (lowerValue (now (astarts .entry)) (now (arows .entry)) (take a (now (floats .entry)))) j (now (values .entry)) (now (values .exit)) ⌝ }
+    requires { ⌜ Rows (laid n (now first) (now starts) (now rows)) (suc j) ⌝ }
+    requires { ⌜ Listed (laid n (now first) (now starts) (now rows)) j (now upd) u0 u1 ⌝ }
+    requires { ⌜ Offsets (laid n (now first) (now starts) (now rows)) j (now offs) ⌝ }
+    requires { ⌜ (Lower (now astarts) (now arows) (take a (now floats)) n) × (Pattern (laid n (now first) (now starts) (now rows)) j (now astarts) (now arows)) ⌝ }
+    requires { ⌜ (Own (laid n (now first) (now starts) (now rows)) j off m w (now place) (length (now values)) (length (now floats) - a)) × (f ≡ getD (now first) j 0) × (a ≤ length (now floats)) ⌝ }
+    ensures { λ r. ⌜ Assembled (laid n (now (first .entry)) (now (starts .entry)) (now (rows .entry))) (lowerValue (now (astarts .entry)) (now (arows .entry)) (take a (now (floats .entry)))) j (now (values .entry)) (now (values .exit)) ⌝ }
     ensures { λ r. ⌜ take a (now (floats .exit)) ≡ take a (now (floats .entry)) ⌝ }
 {
     from_a(
@@ -377,8 +378,8 @@ pub fn step(
     floats: &mut [f64],
     place: &[usize],
 ) -> StepAnswer
-    requires { ⌜ Ready (lent n (now first) (now starts) (now rows)) j a (now offs) (now upd) u0 u1 (now astarts) (now arows) (now floats) (length (now values)) (now place) ⌝ }
-    ensures { λ r. ⌜ Stepped (lent n (now (first .entry)) (now (starts .entry)) (now (rows .entry))) (lowerValue (now (astarts .entry)) (now (arows .entry)) (take a (now (floats .entry)))) j (now (values .entry)) (now (values .exit)) r ⌝ }
+    requires { ⌜ Ready (laid n (now first) (now starts) (now rows)) j a (now offs) (now upd) u0 u1 (now astarts) (now arows) (now floats) (length (now values)) (now place) ⌝ }
+    ensures { λ r. ⌜ Stepped (laid n (now (first .entry)) (now (starts .entry)) (now (rows .entry))) (lowerValue (now (astarts .entry)) (now (arows .entry)) (take a (now (floats .entry)))) j (now (values .entry)) (now (values .exit)) r ⌝ }
     ensures { λ r. ⌜ take a (now (floats .exit)) ≡ take a (now (floats .entry)) ⌝ }
 {
     let f = first[j];

@@ -12,7 +12,6 @@ use lib.ListN.{getD, set, drop}
 use Rattle.statement.specs.Lists.{list}
 use Rattle.statement.specs.Input.{stored}
 use Rattle.statement.specs.Fill.{parent, count}
-use Rattle.statement.specs.Supernodes.{begins}
 use Rattle.laws.specs.Numbered.{shape}
 use Rattle.laws.proofs.Bools.{eqb-yes, eqb-no}
 use Rattle.laws.proofs.Fill.{parent-to}
@@ -42,7 +41,7 @@ module _ (n ns : ℕ) (starts rows firsts : List ℕ) (g : Known n ns starts row
   up = pattern-upper n starts rows (g .formed)
 
   pub few : ns ≤ n
-  few = omega (arith, g .number, Shapes.supernodes-are P n up, count-to (begins P n) n)
+  few = omega (arith, g .number, Shapes.supernodes-few P n up)
 
   pub first-at : (K : ℕ) → K ≤ ns → getD firsts K 0 ≡ firstOf (factoredPattern n starts rows) n K
   first-at K h = g .first-is .at K (let z : K < suc ns = omega arith in z)

@@ -4,11 +4,12 @@ use mathlib.Core.List.{List}
 use Prim.Native.Nat.{ℕ, _+_, _*_, _≤_}
 use native.Mathlib.Omega.{arith}
 use lib.ListN.{length, drop}
+use Rattle.laws.specs.Numbered.{shapeFor}
 use Rattle.statement.specs.Input.{Matrix}
 use Rattle.statement.specs.declared.Room.{Room}
 use Rattle.tasks.specs.Given.{Sized, Above, Given}
 use Rattle.tasks.proofs.Formed.{asked}
-use Rattle.survey.specs.Laid.{Laid, shapeFor}
+use Rattle.survey.specs.Laid.{Laid}
 use Rattle.survey.specs.declared.Findings.{Findings}
 use Rattle.survey.proofs.Surveying.{long}
 use Rattle.survey.proofs.Reading.{held-is, fewer, enough-words, parents-past}

@@ -14,15 +14,14 @@ use Rattle.statement.specs.Supernodes.{shapeOf, begins}
 use Rattle.statement.specs.Areas.{held, short, needs}
 use Rattle.statement.specs.Calls.{factorNeeds}
 use Rattle.statement.specs.declared.Room.{Room}
-use Rattle.laws.specs.Numbered.{factored}
+use Rattle.laws.specs.Numbered.{factored, shapeFor}
 use Rattle.laws.proofs.Input.{upper}
 use Rattle.laws.proofs.FactorTree.{upper′}
-use Rattle.laws.proofs.Shapes.{supernodes-are}
-use Rattle.laws.proofs.Tally.{count-to}
+use Rattle.laws.proofs.Shapes.{supernodes-few}
 use Rattle.laws.proofs.Postorder.{pos}
 use Rattle.laws.proofs.Ranks.{list-length}
 use Rattle.laws.proofs.Stages.{short-passed}
-use Rattle.survey.specs.Laid.{Laid, shapeFor}
+use Rattle.survey.specs.Laid.{Laid}
 use Rattle.survey.specs.declared.Findings.{Findings}
 
 -- an area that holds a part begins with it
@@ -33,7 +32,7 @@ held-is m part e = e
 -- there are at most as many supernodes as columns
 pub fewer : (M : Matrix) → WellFormed M → supernodes (shapeFor M) ≤ M .n
 unfolding shapeOf
-fewer M w = omega (arith, supernodes-are (factored (pattern M) (M .n)) (M .n) (upper′ (pattern M) (M .n) (upper (M .n) (M .starts) (M .rows) (w .columns))), count-to (begins (factored (pattern M) (M .n)) (M .n)) (M .n))
+fewer M w = omega (arith, supernodes-few (factored (pattern M) (M .n)) (M .n) (upper′ (pattern M) (M .n) (upper (M .n) (M .starts) (M .rows) (w .columns))))
 
 -- the scratch words
 pub enough-words : (M : Matrix) (r : Room) → short (factorNeeds M r) ≡ none → 24 * M .n + rowsLength M + 24 ≤ r .words

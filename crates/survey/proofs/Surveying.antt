@@ -18,7 +18,7 @@ use Rattle.statement.specs.Calls.{analysis, factorNeeds, factorLater, later}
 use Rattle.statement.specs.declared.Answer.{Answer}
 use Rattle.statement.specs.declared.Answer.the-variants.{Accepted, WrongStructure}
 use Rattle.statement.specs.declared.Room.{Room}
-use Rattle.laws.specs.Numbered.{factored}
+use Rattle.laws.specs.Numbered.{factored, shapeFor}
 use Rattle.laws.proofs.Exactly.{structure-never}
 use Rattle.laws.proofs.Stages.{short-passed}
 use Rattle.laws.proofs.Input.{upper}
@@ -35,7 +35,7 @@ use Rattle.measure.proofs.Stages.{or-first, or-next, short-none}
 use Rattle.analysis.specs.Phases.{Enough, Numbered, Analysed, laterNeeds}
 use Rattle.clearing.specs.Zeroed.{noTriple}
 use Rattle.updates.specs.Scan.{triple}
-use Rattle.survey.specs.Laid.{structureFault, Laid, Surveyed, Blank, shapeFor}
+use Rattle.survey.specs.Laid.{structureFault, Laid, Surveyed, Blank}
 use Rattle.survey.specs.declared.Findings.{Findings}
 use Rattle.survey.proofs.Zeros.{zeros-over, zeros-length}
 

@@ -8,7 +8,7 @@ use Rattle.statement.specs.Lists.{list, sum}
 use Rattle.statement.specs.Input.{Matrix, WellFormed, pattern}
 use Rattle.statement.specs.Fill.{parent, count, entries}
 use Rattle.statement.specs.Postorder as postorder
-use Rattle.statement.specs.Shape.{Shape, supernodes}
+use Rattle.statement.specs.Shape.{supernodes}
 use Rattle.statement.specs.Supernodes.{updates, updateStarts}
 use Rattle.statement.specs.Answers.{test, orElse, answered}
 use Rattle.statement.specs.Areas.{short, held}
@@ -16,7 +16,7 @@ use Rattle.statement.specs.Calls.{analysis, factorNeeds, factorLater}
 use Rattle.statement.specs.declared.Answer.{Answer}
 use Rattle.statement.specs.declared.Answer.the-variants.{Accepted, WrongStructure}
 use Rattle.statement.specs.declared.Room.{Room}
-use Rattle.laws.specs.Numbered.{shape}
+use Rattle.laws.specs.Numbered.{shapeFor}
 use Rattle.laws.proofs.Postorder.{pos}
 use Rattle.measure.specs.Sized.{measureFault}
 use Rattle.updates.specs.Scan.{triple}
@@ -29,10 +29,6 @@ structureFault M cap r =
     orElse (measureFault M cap r) (
     orElse (short (factorLater (analysis M) r)) (
     test (analysis M .differs) WrongStructure none))
-
--- the structure in factor numbering
-abbrev pub shapeFor : Matrix → Shape
-shapeFor M = shape (pattern M) (M .n)
 
 -- the areas hold it; tasks has the places of the columns and then the supernodal parents; top and words are scratch
 pub record Laid (M : Matrix) (cap : ℕ) (r : Room) (x : Findings) (permutation firsts starts groups tasks nine : List ℕ) (ten : List (List ℕ)) : Type 0 where

@@ -1,5 +1,5 @@
+use Rattle.laws.specs.Numbered.{shapeFor}
 use Rattle.elimination.proofs.Eliminating.{asked}
-use Rattle.ready.specs.Known.{shapeFor}
 use Rattle.elimination.proofs.Eliminating.{part-zero, due, left, column-there, breaks, stands, back-held}
 use Rattle.statement.specs.Input.{matrix}
 use lib.ListN.{length-take}

@@ -1,6 +1,6 @@
+use Rattle.laws.specs.Numbered.{shapeFor}
 use Rattle.elimination.proofs.Ordering.{places-long, above, of, refused-order, legal, then-pivot}
 use Rattle.elimination.proofs.Eliminating.{fewer}
-use Rattle.ready.specs.Known.{shapeFor}
 use Rattle.areas.proofs.Tail.{tail-length}
 use Rattle.room.proofs.Short.{accepted-first}
 use Rattle.statement.specs.Input.{matrix}

@@ -1,7 +1,7 @@
 -- `ready::ready` meets its contract: call by call. Assumes nothing.
+use Rattle.laws.specs.Numbered.{shapeFor}
 use Rattle.ready.proofs.Laying.{w₁, w₂, room, fewer, sited-in, rising, of-shape, tasks-long, long₁, long₂, long₃, laid}
 use Rattle.statement.specs.Input.{matrix}
-use Rattle.ready.specs.Known.{shapeFor}
 use mathlib.Core.Path.{sym, _∙_}
 use lib.ListN.{length, drop}
 use lib.Seq.{length-take-le, take-at}

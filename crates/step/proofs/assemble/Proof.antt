@@ -1,8 +1,8 @@
 -- `step::assemble` meets its contract. from_a in the part at the offset, then the updates. Assumes nothing.
+use Rattle.laws.specs.Lent.{laid}
 use Rattle.step.proofs.Gather as gather
 use Rattle.step.proofs.Scatters as scat
 use Rattle.step.proofs.Assembles as asm
-use Rattle.step.specs.Ready.{lent}
 use Rattle.areas.proofs.Part as part
 use lib.Ieee.{nan}
 use lib.Seq.{length-take-le}
@@ -17,7 +17,7 @@ mul-from-a : tie.Need-mul-from-a
 mul-from-a c =
     let args′ = c .before .before .before .before .before .before .before .before .before .args in
     let pre′ = c .before .before .before .before .before .before .before .before .before .pre in
-    let S = lent (args′ .n) (args′ .first .now) (args′ .starts .now) (args′ .rows .now) in
+    let S = laid (args′ .n) (args′ .first .now) (args′ .starts .now) (args′ .rows .now) in
     let J = args′ .j in
     let o = pre′ .1 .1 .1 .1 .0 in
     let in0 = scat.off-in S J _ _ _ (args′ .place .now) _ _ o in
@@ -27,7 +27,7 @@ sub-from-a : tie.Need-sub-from-a
 sub-from-a c =
     let args′ = c .before .before .before .before .before .before .before .before .before .args in
     let pre′ = c .before .before .before .before .before .before .before .before .before .pre in
-    let S = lent (args′ .n) (args′ .first .now) (args′ .starts .now) (args′ .rows .now) in
+    let S = laid (args′ .n) (args′ .first .now) (args′ .starts .now) (args′ .rows .now) in
     let J = args′ .j in
     let o = pre′ .1 .1 .1 .1 .0 in
     let in0 = scat.off-in S J _ _ _ (args′ .place .now) _ _ o in
@@ -37,7 +37,7 @@ part-from-a-start : tie.Need-part-from-a-start
 part-from-a-start c =
     let args′ = c .before .before .before .before .before .before .before .before .before .args in
     let pre′ = c .before .before .before .before .before .before .before .before .before .pre in
-    let S = lent (args′ .n) (args′ .first .now) (args′ .starts .now) (args′ .rows .now) in
+    let S = laid (args′ .n) (args′ .first .now) (args′ .starts .now) (args′ .rows .now) in
     let J = args′ .j in
     let o = pre′ .1 .1 .1 .1 .0 in
     let in0 = scat.off-in S J _ _ _ (args′ .place .now) _ _ o in
@@ -58,7 +58,7 @@ from-a-requires : tie.Need-from-a-requires
 from-a-requires c κs =
     let args′ = c .before .before .before .before .before .before .before .before .before .before .before .args in
     let pre′ = c .before .before .before .before .before .before .before .before .before .before .before .pre in
-    let S = lent (args′ .n) (args′ .first .now) (args′ .starts .now) (args′ .rows .now) in
+    let S = laid (args′ .n) (args′ .first .now) (args′ .starts .now) (args′ .rows .now) in
     let J = args′ .j in
     let o = pre′ .1 .1 .1 .1 .0 in
     (pre′ .0, (pre′ .1 .1 .1 .0 .0, (pre′ .1 .1 .1 .0 .1, scat.fresh-of S J (args′ .off) _ _ _ (args′ .place .now) _ _ _ o (pre′ .1 .1 .1 .1 .1) (part.mid-length nan (args′ .values .now) (args′ .off)))))
@@ -83,7 +83,7 @@ updates-requires c κs =
     let args′ = c .before .before .before .before .before .before .before .before .before .before .before .before .before .before .before .before .args in
     let pre′ = c .before .before .before .before .before .before .before .before .before .before .before .before .before .before .before .before .pre in
     let from-a′ = c .before .before .before .before .from-a in
-    let S = lent (args′ .n) (args′ .first .now) (args′ .starts .now) (args′ .rows .now) in
+    let S = laid (args′ .n) (args′ .first .now) (args′ .starts .now) (args′ .rows .now) in
     let J = args′ .j in
     let o = pre′ .1 .1 .1 .1 .0 in
     let in0 = scat.off-in S J _ _ _ (args′ .place .now) _ _ o in
@@ -101,7 +101,7 @@ returns c =
     let pre′ = c .before .before .before .before .before .before .before .before .before .before .before .before .before .before .before .before .before .before .before .before .before .pre in
     let from-a′ = c .before .before .before .before .before .before .before .before .before .from-a in
     let updates′ = c .before .before .before .before .updates in
-    let S = lent (args′ .n) (args′ .first .now) (args′ .starts .now) (args′ .rows .now) in
+    let S = laid (args′ .n) (args′ .first .now) (args′ .starts .now) (args′ .rows .now) in
     let J = args′ .j in
     let o = pre′ .1 .1 .1 .1 .0 in (
       asm.assembled S (pre′ .0) J (le-refl _) (args′ .astarts .now) (args′ .arows .now) _ (args′ .values .now) (from-a′ .last .0) _ (args′ .off) (o .offIs) (o .values) (from-a′ .ensures) (updates′ .ensures),

@@ -3,15 +3,16 @@ use mathlib.Core.Path.{_∙_}
 use Prim.Native.Nat.{_-_, _≤_}
 use native.Mathlib.Omega.{arith}
 use native.Mathlib.Nat.{le-refl}
+use Rattle.laws.specs.Lent.{laid}
 use Rattle.step.proofs.Scatters as scat
 use Rattle.step.proofs.Gather as gather
-use Rattle.step.specs.Ready.{lent, FromA}
+use Rattle.step.specs.Ready.{FromA}
 use Rattle.step.proofs.from_a.Statement.{statement}
 use Rattle.step.proofs.from_a.Tie as tie
 use Rattle.statement.specs.Shape.{first, size}
 
 abbrev Inv-loop : tie.InvT-loop
-Inv-loop own₀ j m w f n first starts rows astarts arows avals place c₀ own c = (c ≤ w) × FromA (lent n first starts rows) j astarts arows avals c own₀ own
+Inv-loop own₀ j m w f n first starts rows astarts arows avals place c₀ own c = (c ≤ w) × FromA (laid n first starts rows) j astarts arows avals c own₀ own
 
 abbrev μ-loop : tie.MeasureT-loop
 μ-loop own₀ j m w f n first starts rows astarts arows avals place c₀ own c = w - c
@@ -23,7 +24,7 @@ column-start-requires c κs =
     let f = pre .1 .1 .1 in
     let b = pre .0 in
     let J = args .j in
-    let S = lent (args .n) (args .first .now) (args .starts .now) (args .rows .now) in
+    let S = laid (args .n) (args .first .now) (args .starts .now) (args .rows .now) in
     omega (arith, f .wIs, f .mIs, b .tall J (le-refl _), gather.height-le S b J (le-refl _), b .few)
 
 clear-requires : tie.Need-clear-requires Inv-loop μ-loop
@@ -31,7 +32,7 @@ clear-requires c κs =
     let args = c .before .before .before .before .before .before .before .before .before .before .args in
     let pre = c .before .before .before .before .before .before .before .before .before .before .pre in
     let column-start = c .column-start in
-    let S = lent (args .n) (args .first .now) (args .starts .now) (args .rows .now) in
+    let S = laid (args .n) (args .first .now) (args .starts .now) (args .rows .now) in
     let J = args .j in
     let f = pre .1 .1 .1 in
     let size = scat.size-code S J (args .m) (args .w) _ (column-start .ensures) (f .mIs) (f .wIs) in
@@ -43,7 +44,7 @@ loop-holds c =
     let args = c .before .before .before .before .before .before .before .before .before .before .before .before .before .args in
     let pre = c .before .before .before .before .before .before .before .before .before .before .before .before .before .pre in
     let column-start = c .before .before .before .column-start in
-    let S = lent (args .n) (args .first .now) (args .starts .now) (args .rows .now) in
+    let S = laid (args .n) (args .first .now) (args .starts .now) (args .rows .now) in
     let J = args .j in
     let as0 = args .astarts .now in
     let ar = args .arows .now in
@@ -79,7 +80,7 @@ loop-again c =
     let pre = c .before .before .before .before .before .before .before .before .before .before .before .before .before .before .before .before .before .before .before .pre in
     let loop = c .before .before .before .before .before .loop in
     let from-a-column = c .before .before .from-a-column in
-    let S = lent (args .n) (args .first .now) (args .starts .now) (args .rows .now) in
+    let S = laid (args .n) (args .first .now) (args .starts .now) (args .rows .now) in
     let b = pre .0 in
     let J = args .j in
     let f = pre .1 .1 .1 in
@@ -104,7 +105,7 @@ returns c =
     let args = c .before .before .before .before .before .before .before .before .before .before .before .before .before .before .before .args in
     let pre = c .before .before .before .before .before .before .before .before .before .before .before .before .before .before .before .pre in
     let column-start = c .before .before .before .before .before .column-start in
-    let S = lent (args .n) (args .first .now) (args .starts .now) (args .rows .now) in
+    let S = laid (args .n) (args .first .now) (args .starts .now) (args .rows .now) in
     let J = args .j in
     let as0 = args .astarts .now in
     let ar = args .arows .now in

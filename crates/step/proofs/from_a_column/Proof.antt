@@ -3,9 +3,9 @@ use borrow.Author.Needs.{needs}
 use Prim.Native.Nat.{_<_}
 use native.Mathlib.Omega.{arith}
 use native.Mathlib.Nat.{le-refl}
+use Rattle.laws.specs.Lent.{laid}
 use Rattle.step.proofs.Scatters as scat
 use Rattle.step.proofs.Gather as gather
-use Rattle.step.specs.Ready.{lent}
 use Rattle.step.proofs.Spots as spots
 use Rattle.step.proofs.from_a_column.Statement.{statement}
 use Rattle.step.proofs.from_a_column.Tie as tie
@@ -15,7 +15,7 @@ add-k : tie.Need-add-k
 add-k c =
     let args = c .before .before .before .before .before .before .before .before .args in
     let pre = c .before .before .before .before .before .before .before .before .pre in
-    let S = lent (args .n) (args .first .now) (args .starts .now) (args .rows .now) in
+    let S = laid (args .n) (args .first .now) (args .starts .now) (args .rows .now) in
     let b = pre .0 in
     let J = args .j in
     let f = pre .1 .1 .1 .0 in
@@ -33,7 +33,7 @@ mul-t0 : tie.Need-mul-t0
 mul-t0 c =
     let args = c .before .before .before .before .before .before .before .before .args in
     let pre = c .before .before .before .before .before .before .before .before .pre in
-    let S = lent (args .n) (args .first .now) (args .starts .now) (args .rows .now) in
+    let S = laid (args .n) (args .first .now) (args .starts .now) (args .rows .now) in
     let b = pre .0 in
     let J = args .j in
     let f = pre .1 .1 .1 .0 in
@@ -51,7 +51,7 @@ shared-slice-read-t0 : tie.Need-shared-slice-read-t0
 shared-slice-read-t0 c =
     let args = c .before .before .before .before .before .before .before .before .before .args in
     let pre = c .before .before .before .before .before .before .before .before .before .pre in
-    let S = lent (args .n) (args .first .now) (args .starts .now) (args .rows .now) in
+    let S = laid (args .n) (args .first .now) (args .starts .now) (args .rows .now) in
     let b = pre .0 in
     let J = args .j in
     let f = pre .1 .1 .1 .0 in
@@ -69,7 +69,7 @@ add-t1 : tie.Need-add-t1
 add-t1 c =
     let args = c .before .before .before .before .before .before .before .before .before .args in
     let pre = c .before .before .before .before .before .before .before .before .before .pre in
-    let S = lent (args .n) (args .first .now) (args .starts .now) (args .rows .now) in
+    let S = laid (args .n) (args .first .now) (args .starts .now) (args .rows .now) in
     let b = pre .0 in
     let J = args .j in
     let f = pre .1 .1 .1 .0 in
@@ -87,7 +87,7 @@ mul-t1 : tie.Need-mul-t1
 mul-t1 c =
     let args = c .before .before .before .before .before .before .before .before .before .args in
     let pre = c .before .before .before .before .before .before .before .before .before .pre in
-    let S = lent (args .n) (args .first .now) (args .starts .now) (args .rows .now) in
+    let S = laid (args .n) (args .first .now) (args .starts .now) (args .rows .now) in
     let b = pre .0 in
     let J = args .j in
     let f = pre .1 .1 .1 .0 in
@@ -105,7 +105,7 @@ shared-slice-read-t1 : tie.Need-shared-slice-read-t1
 shared-slice-read-t1 c =
     let args = c .before .before .before .before .before .before .before .before .before .before .args in
     let pre = c .before .before .before .before .before .before .before .before .before .before .pre in
-    let S = lent (args .n) (args .first .now) (args .starts .now) (args .rows .now) in
+    let S = laid (args .n) (args .first .now) (args .starts .now) (args .rows .now) in
     let b = pre .0 in
     let J = args .j in
     let f = pre .1 .1 .1 .0 in
@@ -126,7 +126,7 @@ column-start-requires c κs =
     let f = pre .1 .1 .1 .0 in
     let b = pre .0 in
     let J = args .j in
-    let S = lent (args .n) (args .first .now) (args .starts .now) (args .rows .now) in
+    let S = laid (args .n) (args .first .now) (args .starts .now) (args .rows .now) in
     omega (arith, pre .1 .1 .1 .1, f .wIs, f .mIs, b .tall J (le-refl _), gather.height-le S b J (le-refl _), b .few)
 
 sub-base : tie.Need-sub-base
@@ -144,7 +144,7 @@ sub-store-through c =
     let args = c .before .before .before .before .before .before .before .before .before .before .before .before .args in
     let column-start = c .before .column-start in
     let pre = c .before .before .before .before .before .before .before .before .before .before .before .before .pre in
-    let S = lent (args .n) (args .first .now) (args .starts .now) (args .rows .now) in
+    let S = laid (args .n) (args .first .now) (args .starts .now) (args .rows .now) in
     let b = pre .0 in
     let J = args .j in
     let f = pre .1 .1 .1 .0 in
@@ -162,7 +162,7 @@ store-through-requires c κs =
     let args = c .before .before .before .before .before .before .before .before .before .before .before .before .args in
     let column-start = c .before .column-start in
     let pre = c .before .before .before .before .before .before .before .before .before .before .before .before .pre in
-    let S = lent (args .n) (args .first .now) (args .starts .now) (args .rows .now) in
+    let S = laid (args .n) (args .first .now) (args .starts .now) (args .rows .now) in
     let b = pre .0 in
     let J = args .j in
     let f = pre .1 .1 .1 .0 in
@@ -186,7 +186,7 @@ returns c =
     let column-start = c .before .before .before .before .column-start in
     let store-through = c .before .before .store-through in
     let pre = c .before .before .before .before .before .before .before .before .before .before .before .before .before .before .before .pre in
-    let S = lent (args .n) (args .first .now) (args .starts .now) (args .rows .now) in
+    let S = laid (args .n) (args .first .now) (args .starts .now) (args .rows .now) in
     let b = pre .0 in
     let J = args .j in
     let f = pre .1 .1 .1 .0 in

@@ -1,6 +1,7 @@
 -- `step::one_update` meets its contract. The three words of an update, and what update does with them. Assumes nothing.
+use Rattle.laws.specs.Lent.{laid}
 use Rattle.step.proofs.Gather as gather
-use Rattle.step.specs.Ready.{lent, source}
+use Rattle.step.specs.Ready.{source}
 use native.Mathlib.Nat.{le-refl}
 use native.Mathlib.Omega.{arith}
 use Prim.Native.Nat.{suc, _<_}
@@ -57,7 +58,7 @@ sub-km : tie.Need-sub-km
 sub-km c =
     let args′ = c .before .before .before .before .before .before .before .before .before .before .args in
     let pre′ = c .before .before .before .before .before .before .before .before .before .before .pre in
-    let S = lent (args′ .n) (args′ .first .now) (args′ .starts .now) (args′ .rows .now) in
+    let S = laid (args′ .n) (args′ .first .now) (args′ .starts .now) (args′ .rows .now) in
     let K = source (args′ .upd .now) (args′ .u) in
     let kin : K < suc (args′ .j) = omega (arith, pre′ .1 .0 .before (args′ .u) (pre′ .1 .1 .1 .1 .0) (pre′ .1 .1 .1 .1 .1)) in
     gather.starts-rise S (pre′ .0) K kin
@@ -96,7 +97,7 @@ sub-kw : tie.Need-sub-kw
 sub-kw c =
     let args′ = c .before .before .before .before .before .before .before .before .before .before .before .before .args in
     let pre′ = c .before .before .before .before .before .before .before .before .before .before .before .before .pre in
-    let S = lent (args′ .n) (args′ .first .now) (args′ .starts .now) (args′ .rows .now) in
+    let S = laid (args′ .n) (args′ .first .now) (args′ .starts .now) (args′ .rows .now) in
     let K = source (args′ .upd .now) (args′ .u) in
     let kin : K < suc (args′ .j) = omega (arith, pre′ .1 .0 .before (args′ .u) (pre′ .1 .1 .1 .1 .0) (pre′ .1 .1 .1 .1 .1)) in
     gather.firsts-rise S (pre′ .0) K kin
@@ -117,7 +118,7 @@ update-requires : tie.Need-update-requires
 update-requires c κs =
     let args′ = c .before .before .before .before .before .before .before .before .before .before .before .before .before .before .before .args in
     let pre′ = c .before .before .before .before .before .before .before .before .before .before .before .before .before .before .before .pre in
-    let S = lent (args′ .n) (args′ .first .now) (args′ .starts .now) (args′ .rows .now) in
+    let S = laid (args′ .n) (args′ .first .now) (args′ .starts .now) (args′ .rows .now) in
     let K = source (args′ .upd .now) (args′ .u) in
     let kin : K < suc (args′ .j) = omega (arith, pre′ .1 .0 .before (args′ .u) (pre′ .1 .1 .1 .1 .0) (pre′ .1 .1 .1 .1 .1)) in
     let own = pre′ .1 .1 .1 .0 in
@@ -136,7 +137,7 @@ returns c =
     let args′ = c .before .before .before .before .before .before .before .before .before .before .before .before .before .before .before .before .before .before .before .before .args in
     let pre′ = c .before .before .before .before .before .before .before .before .before .before .before .before .before .before .before .before .before .before .before .before .pre in
     let update′ = c .before .before .before .before .update in
-    let S = lent (args′ .n) (args′ .first .now) (args′ .starts .now) (args′ .rows .now) in
+    let S = laid (args′ .n) (args′ .first .now) (args′ .starts .now) (args′ .rows .now) in
     let K = source (args′ .upd .now) (args′ .u) in
     let kin : K < suc (args′ .j) = omega (arith, pre′ .1 .0 .before (args′ .u) (pre′ .1 .1 .1 .1 .0) (pre′ .1 .1 .1 .1 .1)) in
     let own = pre′ .1 .1 .1 .0 in

@@ -4,15 +4,15 @@ use Prim.Native.Nat.{_-_, _≤_}
 use native.Mathlib.Omega.{arith}
 use native.Mathlib.Nat.{le-refl}
 use lib.ListN.{length}
+use Rattle.laws.specs.Lent.{laid}
 use Rattle.step.proofs.Gather as gather
 use Rattle.step.proofs.Earlies as early
-use Rattle.step.specs.Ready.{lent}
 use Rattle.step.proofs.updates.Statement.{statement}
 use Rattle.step.proofs.updates.Tie as tie
 use Rattle.statement.specs.Shape.{first, size}
 
 abbrev Inv-loop : tie.InvT-loop
-Inv-loop values₀ j off m w n first starts rows offs upd u0 u1 place work₀ u₀ values work u = (u0 ≤ u) × (u ≤ u1) × (length work ≡ length work₀) × early.Sofar (lent n first starts rows) j upd u0 u1 values₀ values u
+Inv-loop values₀ j off m w n first starts rows offs upd u0 u1 place work₀ u₀ values work u = (u0 ≤ u) × (u ≤ u1) × (length work ≡ length work₀) × early.Sofar (laid n first starts rows) j upd u0 u1 values₀ values u
 
 abbrev μ-loop : tie.MeasureT-loop
 μ-loop values₀ j off m w n first starts rows offs upd u0 u1 place work₀ u₀ values work u = u1 - u
@@ -21,7 +21,7 @@ loop-holds : tie.Need-loop-holds Inv-loop μ-loop
 loop-holds c =
     let args′ = c .before .before .before .before .before .before .before .args in
     let pre′ = c .before .before .before .before .before .before .before .pre in
-    let S = lent (args′ .n) (args′ .first .now) (args′ .starts .now) (args′ .rows .now) in
+    let S = laid (args′ .n) (args′ .first .now) (args′ .starts .now) (args′ .rows .now) in
     let o = pre′ .1 .1 .1 in
     (omega arith, pre′ .1 .0 .ordered, refl, early.start S (pre′ .0) (args′ .j) (le-refl _) (args′ .place .now) (o .placed) (o .places) _ _ _ (pre′ .1 .0) _)
 
@@ -50,7 +50,7 @@ loop-again c =
     let loop′ = c .before .before .before .before .before .before .before .before .loop in
     let loop-test′ = c .before .before .before .before .before .before .before .loop-test in
     let one-update′ = c .before .before .before .before .one-update in
-    let S = lent (args′ .n) (args′ .first .now) (args′ .starts .now) (args′ .rows .now) in
+    let S = laid (args′ .n) (args′ .first .now) (args′ .starts .now) (args′ .rows .now) in
     let o = pre′ .1 .1 .1 in (
       omega (arith, loop′ .inv .0),
       omega (arith, loop-test′ .taken),
@@ -74,7 +74,7 @@ returns c =
     let pre′ = c .before .before .before .before .before .before .before .before .before .pre in
     let loop′ = c .before .loop in
     let loop-test′ = c .loop-test in
-    let S = lent (args′ .n) (args′ .first .now) (args′ .starts .now) (args′ .rows .now) in
+    let S = laid (args′ .n) (args′ .first .now) (args′ .starts .now) (args′ .rows .now) in
     let o = pre′ .1 .1 .1 in
     early.all S (pre′ .0) (args′ .j) (le-refl _) (args′ .place .now) (o .placed) (o .places) _ _ _ (pre′ .1 .0) _ _ (loop′ .u) (loop′ .inv .1) (loop-test′ .left) (loop′ .inv .3)
 
