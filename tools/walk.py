@@ -261,12 +261,14 @@ class Walk:
     def emit(w, s): w.out += s
     def open_(w, s): w.out += s; w.depth += 1
 
+    def look(w, k): return f'(load ! (from ! (stop !)) (look ! {w.c.ix(f"L-{k}")} refl))'
+
     def operand(w, o):
         """how an operand is loaded, and what it is"""
         if o[0] == 'int': return '(lit ! tt)', dict(kind='word', val=o[2], mach=f'vint w64 {o[2]}', **{'is': '(refl, lit< tt)'})
         k, proj = int(o[1][1]), seqlist(o[1][2])
         assert not proj, o
-        return f'(load ! (from ! (stop !)) (look ! {w.c.ix(f"L-{k}")} refl))', w.loc[k]
+        return w.look(k), w.loc[k]
 
     def assign(w, s):
         dest = int(s[1][1]); assert not seqlist(s[1][2]), s
@@ -306,7 +308,6 @@ class Walk:
         G = next(x for x in w.callees if x.path == s[1][1][1])
         g = 'f-' + w.id(G.name); con = f'C-{w.id(G.name)}'
         args = seqlist(s[2]); dest = int(s[3][1])
-        loads, vals = [], []
         info = []
         for (n, kind, t), a in zip(G.params, args):
             if kind in ('shr', 'mut'):
@@ -318,7 +319,7 @@ class Walk:
             else:
                 info.append((kind, t, a, None, None))
         # the slices, lent for the call
-        lfts = []; nu = 0
+        lfts = []
         gi = {}
         for j, (kind, t, n, lent, l) in enumerate(info):
             if lent is None: continue
@@ -345,7 +346,6 @@ class Walk:
                 w.line(f'use1 W (‵ ({w.own(n, cur, var(n))}) ⊛ ‵ ({w.own(n, cur, var(n))})) (shr-slice-copy 𝓤 H A W (named {w.lft[n]}) κ-{i} {R} .twice {w.ref(n, f"γ-{i}", cur)} (s-{i} ∷ [])) $ split ! $ ')
                 c.head(1, f'arg-{j}', f'own-{n}')
                 lfts.append((f'κ-{i}', f'q-{i}', f'tok-{n}')); gi[j] = f'γ-{i}'
-                if m != w.lft[n]: pass
         # the arguments' values
         den, mac, entry = [], [], {}
         w.emit('nothing ! $ '); c.head(0, 'O')
@@ -372,8 +372,8 @@ class Walk:
         DEN, MAC = tup(den), tup(mac)
         ghost = f'(({LF}, {QS}, tt, {DEN}, {MAC}), tt)'
         TK = '(' + ' ⊛ '.join([f'‵ (flft ({x[0]}) {x[1]})' for x in lfts] + ['‵ ftrue']) + ')'
-        rows = ' ∷ '.join(('MutSlice' if kind == 'mut' else 'ShrSlice') + f' (named {[q for q in range(len(info)) if info[q][3] is not None].index(j)}) ({lfts[[q for q in range(len(info)) if info[q][3] is not None].index(j)][0]}) {rtype(t)}' if lent is not None else rtype(t) for j, (kind, t, n, lent, l) in enumerate(info)) + ' ∷ []'
-        if not info: rows = '[]'
+        place = {j: q for q, j in enumerate(j for j, x in enumerate(info) if x[3] is not None)}
+        rows = ' ∷ '.join([('MutSlice' if kind == 'mut' else 'ShrSlice') + f' (named {place[j]}) ({lfts[place[j]][0]}) {rtype(t)}' if lent is not None else rtype(t) for j, (kind, t, n, lent, l) in enumerate(info)] + ['[]'])
         binders = ' '.join(f'(ν{k}-{j} : ℕ) (δ{k}-{j} : GName)' for j, x in enumerate(info) if x[3])
         bnames = ''.join(f' ν{k}-{j} δ{k}-{j}' for j, x in enumerate(info) if x[3])
         req = None
@@ -456,7 +456,7 @@ class Walk:
             add += [(f'u{k}', RES), (f'r{k}', 'Val'), (f'is{k}', f'Is {RR} u{k} (r{k} ∷ [])')]; give += [f'u{k}', f'r{k}', f'is{k}']
         for n, t, name, z, cur in news: add.append((name, f'List {dtype(t)}')); give.append(z)
         ex2 = {pn: f'c{k}-{w.id(x[2])}' for (pn, pk, pt), x in zip(G.params, info) if pk == 'mut'}
-        fact2 = put(G, t_ := clause(G.ensures[0])[1], entry, ex2, f'u{k}' if G.result != 'unit' else 'tt', clause(G.ensures[0])[0])
+        fact2 = put(G, clause(G.ensures[0])[1], entry, ex2, f'u{k}' if G.result != 'unit' else 'tt', clause(G.ensures[0])[0])
         add.append((f'd{k}', fact2)); give.append(f'd{k}')
         for n, t, name, z, cur in news: add.append((f'same{k}-{w.id(n)}', f'length {name} ≡ length {cur}')); give.append(f'same{k}-{w.id(n)}')
         w.hist += add
@@ -547,6 +547,12 @@ class Walk:
             raise SystemExit(f'no statement {s[0]}')
 
     # ---- the loop: `while i < to { calls; i += 1 }`; i, the lists of the `&mut` slices and what the plan says is carried change
+    def test(w, is_, why):
+        """the loop's test is made, and is this"""
+        w.line(f'assigns ! (bin ! {w.look(w.li)} {w.look(w.lt)} tt) (from ! (stop !)) (init ! {w.c.ix(f"L-{w.lb}")} refl (tt, tt)) $ ')
+        w.line(f'rewrite ! {w.c.ix(f"L-{w.lb}")} (λ (t : Bool). ‵ (fat fullShare tyBool l{w.lb} 0 (vbool t))) {why} refl $ ')
+        w.loc[w.lb] = dict(kind='bool', mach=f'vbool {is_}')
+
     def keeps(w, i, vals):
         t = w.plan['keeps']
         t = re.sub(r'(?<![\w·.\-′])i(?![\w·\-′])', lambda m: i, t)
@@ -598,20 +604,17 @@ class Walk:
             return f'via 𝓤 {res} ({cur}) (exI 𝓤 (λ (i : ℕ). {inner(t_)}) {idx})'
         # one turn
         save = (dict(w.cur), dict(w.len), dict(w.loc))
-        w.hist = base = [('i', 'ℕ')] + w.ghosts + w.facts('i', self_) + [('small', f'i < {to}')]
+        base = [('i', 'ℕ')] + w.ghosts + w.facts('i', self_) + [('small', f'i < {to}')]
         w.hist = list(base)
         w.fresh(); c = w.c
-        look = lambda q: f'(load ! (from ! (stop !)) (look ! {c.ix(f"L-{q}")} refl))'
-        w.line(f'assigns ! (bin ! {look(w.li)} {look(w.lt)} tt) (from ! (stop !)) (init ! {c.ix(f"L-{w.lb}")} refl (tt, tt)) $ ')
-        w.line(f'rewrite ! {c.ix(f"L-{w.lb}")} (λ (t : Bool). ‵ (fat fullShare tyBool l{w.lb} 0 (vbool t))) (holds _ (lt→ltb i {w.atom(to)} small)) refl $ ')
-        w.line(f'stays ! {look(w.lb)} $ ')
-        w.loc[w.lb] = dict(kind='bool', mach='vbool true')
+        w.test('true', f'(holds _ (lt→ltb i {w.atom(to)} small))')
+        w.line(f'stays ! {w.look(w.lb)} $ ')
         for x in turn[2:-1]:
             if x[0] == 'assign': w.assign(x)
             elif x[0] == 'call': w.call(x, False)
             else: raise SystemExit(f'no statement {x[0]} in a loop')
         c = w.c
-        w.line(f'assigns-last ! (bin ! {look(w.li)} (lit ! tt) (record {{ fits = next-fits }})) (from ! (stop !)) (store ! {c.ix(f"L-{w.li}")} refl (tt, record {{ fits = next-fits }})) $ ')
+        w.line(f'assigns-last ! (bin ! {w.look(w.li)} (lit ! tt) (record {{ fits = next-fits }})) (from ! (stop !)) (store ! {c.ix(f"L-{w.li}")} refl (tt, record {{ fits = next-fits }})) $ ')
         for q in sorted(w.loc):
             if w.loc[q] and not save[2].get(q): w.emit(f'forget ! {c.ix(f"L-{q}")} refl $ '); w.loc[q] = None
         w.line(f'rewrite ! {c.ix(f"L-{w.li}")} (λ (j : ℕ). ‵ (fat fullShare ty{w.li} l{w.li} 0 (vint w64 j))) (add-one i) refl $ ')
@@ -687,11 +690,8 @@ ENDS
         w.hist = w.ghosts + w.facts(to, self_)
         w.loc[w.li] = dict(kind='word', t='usize', val=w.to, mach=f'vint w64 {w.to}', **{'is': '?'})
         w.fresh(); c = w.c
-        look = lambda q: f'(load ! (from ! (stop !)) (look ! {c.ix(f"L-{q}")} refl))'
-        w.line(f'assigns ! (bin ! {look(w.li)} {look(w.lt)} tt) (from ! (stop !)) (init ! {c.ix(f"L-{w.lb}")} refl (tt, tt)) $ ')
-        w.line(f'rewrite ! {c.ix(f"L-{w.lb}")} (λ (t : Bool). ‵ (fat fullShare tyBool l{w.lb} 0 (vbool t))) (fails _ (λ a. lt-irrefl {to} (ltb→lt {to} {to} a))) refl $ ')
-        w.line(f'leaves-loop ! {look(w.lb)} $ exec ! C Λ En body.t-{at} (atRet En Post) $ ')
-        w.loc[w.lb] = dict(kind='bool', mach='vbool false')
+        w.test('false', f'(fails _ (λ a. lt-irrefl {to} (ltb→lt {to} {to} a)))')
+        w.line(f'leaves-loop ! {w.look(w.lb)} $ exec ! C Λ En body.t-{at} (atRet En Post) $ ')
         for s in w.body[at - 1:]:
             if s == 'return': w.returned(); break
             if s[0] == 'assign': w.assign(s)
@@ -748,7 +748,6 @@ ENDS
             'denote.Slice': 'sliceTy sliceVal ShrSlice MutSlice Room slice-vals shr-slice-tells mut-slice-tells shr-slice-copy', 'denote.Signature': 'plain', 'denote.Steps': 'owned peeks heard nothing', 'denote.Triple.Entry': 'Vals onEntry', 'denote.Triple.Spec': 'Meets tripleOf',
             'denote.Triple.Statement': 'Contract Triple', 'denote.Triple.Call': 'calls-at', 'denote.Triple.Clauses': 'ensured lasts', 'denote.Triple.Table': 'entered cited',
             'denote.Triple.Walked': 'says needs Stays stay-none stay-none-slice stay-slice walkOf goes-none goes-none-slice goes-slice Walks ends-at walked walk-meets', 'denote.Exit': 'yes'}
-        body = []
         # the parameters
         pars, facts, args, fact_args = '', '', '', ''
         for j, (n, kind, t) in enumerate(w.P):
@@ -802,7 +801,7 @@ ENDS
         enter = f'needs 𝓤 _ _ (λ pre.\n      walk 𝓤 H A W mem run {args}{fact_args}pre 𝓣 {knowns})' if pre else f'via 𝓤 _ (fst∗ 𝓤 _ (emp 𝓤))\n      (walk 𝓤 H A W mem run {args}{fact_args}𝓣 {knowns})'
         cons = ''.join(f'  abbrev C-{w.id(G.name)} : Contract 𝓤\n  C-{w.id(G.name)} = tripleOf 𝓤 H A f-{w.id(G.name)}.signature (f-{w.id(G.name)}.spec 𝓤 H A mem run)\n\n' for G in w.callees)
         cited = '\n'.join(f'    (cited 𝓤 H (C-{w.id(G.name)} 𝓤 H (𝓖 .A) (𝓜 .mem) (𝓡 .run)) 𝓜 𝓡 code.env #{G.crate}·{w.id(G.name)} def-{w.id(G.name)}.routine code.calls-{G.crate}·{w.id(G.name)} (thm-{w.id(G.name)}.met 𝓤 H 𝓜 𝓖 𝓡))' for G in w.callees)
-        out = f'''-- `{h.path.replace("::", "::")}` meets its contract: a walk of its MIR that tools/walk.py wrote, cut after each call. Assumes nothing.
+        out = f'''-- `{h.path}` meets its contract: a walk of its MIR that tools/walk.py wrote, cut after each call. Assumes nothing.
 USES
 
 abbrev stayed : Stays (here.ended .signature .params) (here.ended .kept)
@@ -872,7 +871,6 @@ unfolding code.routine tablesOf
             xs = sorted(x for x in allb[m] if named(x))
             if xs: lines.append(f'use {m}.{{{", ".join(xs)}}}')
         if 'LL.' in out: lines.append('use denote.Struct.Laws as LL')
-        homes = {}
         for s, p in STRUCTS.items():
             crate = (p or w.plan.get(f'struct {s}', '')).split('::')[0] or h.crate
             own = crate == h.crate
