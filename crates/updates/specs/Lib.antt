@@ -1,1 +1,3 @@
+pub mod Laying
+pub mod Layout
 pub mod Scan
