@@ -1,4 +1,5 @@
 -- What the walks share.
 pub mod Again
 pub mod Shared
+pub mod Owned
 pub mod Laws
