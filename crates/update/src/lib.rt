@@ -21,7 +21,7 @@ pub fn put_update(us: &mut [Update], i: usize, u: Update)
     us[i] = u;
 }
 
-fn none() -> Update
+pub fn none() -> Update
     ensures { λ r. ⌜ r ≡ noUpdate ⌝ }
 {
     Update {
