@@ -3,3 +3,4 @@ pub mod Again
 pub mod Shared
 pub mod Owned
 pub mod Laws
+pub mod Packs
