@@ -91,12 +91,13 @@ def source(root, path):
         n, t = [q.strip() for q in p.split(':', 1)]
         n = n.replace('mut ', '')
         t = re.sub(r"'\w+ ", '', t)
+        t = re.sub(r'\bu64\b', 'usize', t)      # one type in the logic
         if t.startswith('&mut ['): F.params.append((n, 'arr' if ';' in t else 'mut', t[6:-1]))
         elif t.startswith('&['): F.params.append((n, 'shr', t[2:-1]))
         else: F.params.append((n, 'word' if t == 'usize' else 'struct', t))
     rest = s[j:]
     m = re.match(r'\s*->\s*([\w:]+)', rest)
-    F.result = m.group(1) if m else 'unit'
+    F.result = re.sub(r'^u64$', 'usize', m.group(1)) if m else 'unit'
     k = j + (m.end() if m else 0)
     F.requires, F.ensures = [], []
     while True:
@@ -459,7 +460,7 @@ class Walk:
             rn, t = clause(G.ensures[0]); fact = put(G, t, entry, exits, f'u{k}', rn)
             w.open_(f'split ! $ move ! (1 ∷ []) $ use1 W (some (λ (zs{k} : {ZT}). ‵ (lasts {g}.ended {LF} {DEN} zs{k}) ⊛ raw (fact 𝓤 ({fact})))) (id⊢ 𝓤 _) $ pick ! (λ zs{k}. split ! $ move ! (1 ∷ []) $ ')
             w.open_(f'heard ! ({fact}) (λ d{k}. '); w.line('')
-        else: raise SystemExit(f'{G.path} has no ensures')
+        else: w.open_(f'split ! $ move ! (1 ∷ []) $ use1 W (some (λ (zs{k} : {ZT}). ‵ (lasts {g}.ended {LF} {DEN} zs{k}) ⊛ raw (emp 𝓤))) (id⊢ 𝓤 _) $ pick ! (λ zs{k}. split ! $ move ! (1 ∷ []) $ drop ! $ '); w.line('')
         c.head(1, 'R', 'TO')
         for j, (kind, t, n, lent, l) in enumerate(info):
             w.emit(c.front('R') + 'fsplit ! $ ')
@@ -522,8 +523,9 @@ class Walk:
             add += [(f'u{k}', RES), (f'r{k}', 'Val'), (f'is{k}', f'Is {RR} u{k} (r{k} ∷ [])')]; give += [f'u{k}', f'r{k}', f'is{k}']
         for n, t, name, z, cur in news: add.append((name, f'List {dtype(t)}')); give.append(z)
         ex2 = {pn: f'c{k}-{w.id(x[2])}' for (pn, pk, pt), x in zip(G.params, info) if pk in ('mut', 'arr')}
-        fact2 = put(G, clause(G.ensures[0])[1], entry, ex2, f'u{k}' if G.result != 'unit' else 'tt', clause(G.ensures[0])[0])
-        add.append((f'd{k}', fact2)); give.append(f'd{k}')
+        if G.ensures:
+            fact2 = put(G, clause(G.ensures[0])[1], entry, ex2, f'u{k}' if G.result != 'unit' else 'tt', clause(G.ensures[0])[0])
+            add.append((f'd{k}', fact2)); give.append(f'd{k}')
         for n, t, name, z, cur in news:
             if w.kind(n) != 'arr': add.append((f'same{k}-{w.id(n)}', f'length {name} ≡ length {cur}')); give.append(f'same{k}-{w.id(n)}')
         w.hist += add
@@ -675,7 +677,7 @@ class Walk:
         w.exits = f'''    exits : {w.pars()}{" → " if w.hist else ""}ent 𝓤 (⋆ 𝓤 H A ({ctx})) (Post {w.atom(v["mach"])})
     exits{w.names()} =
         {says}qed W ({ctx}) ∵
-        suffices ! _ (ends-at 𝓤 H A here.ended stayed (here.clauses 𝓤 H A mem run) W bound {w.atom(v["mach"])} {res} {lasts} {fits}) $ {"says ! told $ " if says else ""}
+        suffices ! _ (ends-at 𝓤 H A here.ended stayed (here.clauses 𝓤 H A mem run) W bound {w.atom(v["mach"])} {res} {lasts} {fits}) $ {"says ! told" if says else "says-nothing !"} $ 
         {e}
 
 '''
@@ -1034,7 +1036,7 @@ unfolding code.routine tablesOf
                     out = new; steps.add(x)
                     base[m] = ' '.join(f'{y}·as·w-{y}' if y == x else y for y in base[m].split())
         base = {m: {y.replace('·as·', ' as ') for y in xs.split()} for m, xs in base.items()}
-        for x in ('pack', 'unpack', 'homes-freed', 'big-lit'): out = re.sub(r'(?<![\w·.\-′])' + x + ' !(?=[ )])', f'w-{x} !', out)
+        for x in ('pack', 'unpack', 'homes-freed', 'big-lit', 'says-nothing'): out = re.sub(r'(?<![\w·.\-′])' + x + ' !(?=[ )])', f'w-{x} !', out)
         # imports: what is named
         words = set(re.findall(r"[^\s(){};,]+", out))
         words |= {x.lstrip('.') for x in words}
@@ -1062,7 +1064,8 @@ unfolding code.routine tablesOf
         for G in w.callees:
             m = mod(G) + fpath(G); i = w.id(G.name)
             lines += [f'use {m} as f-{i}', f'use {m}.Symbol as def-{i}', f'use {m}.Symbol.{{name as #{G.crate}·{i}}}', f'use {m}.Met as thm-{i}']
-        if 'big-lit' in out: lines.append(f'use {w.plan.get("lends", f"Rattle.{h.crate}.proofs") + ".Big"}.{{big-lit as w-big-lit}}')
+        steps = [x for x in ('big-lit', 'says-nothing') if x in out]
+        if steps: lines.append(f'use {w.plan.get("lends", f"Rattle.{h.crate}.proofs") + ".Steps"}.{{{", ".join(f"{x} as w-{x}" for x in steps)}}}')
         if 'Packed' in out: lines.append(f'use {w.plan.get("lends", f"Rattle.{h.crate}.proofs") + ".Packs"}.{{Packed, pack as w-pack, unpack as w-unpack, homes-freed as w-homes-freed}}')
         if 'LentAgain' in out: lines.append(f'use {w.plan.get("lends", f"Rattle.{h.crate}.proofs") + ".Again"}.{{LentAgain, lends-again, comes-back}}')
         if 'LentShared' in out: lines.append(f'use {w.plan.get("lends", f"Rattle.{h.crate}.proofs") + ".Shared"}.{{LentShared, lends-shared, shared-back}}')

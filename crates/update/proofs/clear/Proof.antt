@@ -182,7 +182,7 @@ module _ {M : Type 1} (𝓤 : URA M) (H : Heap 𝓤) (A : Atoms 𝓤) (W : Given
           w-nothing ! $
           use2 W (raw (C-none 𝓤 H A mem run .pre ((tt, tt, tt, tt, tt), tt))) (asked1 i v-us len-us kept small) $
           w-calls-at ! fm (C-none 𝓤 H A mem run) known-none ((tt, tt, tt, tt, tt), tt) (w-no-more !) (λ r1.
-          use1 W (later (some (λ (u : Update). ((‵ ftrue) ⊛ ‵ (T-Update.the-row .own u (r1 ∷ []))) ⊛ raw (ensured 𝓤 H A f-none.ended (f-none.clauses 𝓤 H A mem run) tt tt tt u)))) (id⊢ 𝓤 _) $ w-await ! tt $ w-pick ! (λ u1.
+          use1 W (later (some (λ (u′ : Update). ((‵ ftrue) ⊛ ‵ (T-Update.the-row .own u′ (r1 ∷ []))) ⊛ raw (ensured 𝓤 H A f-none.ended (f-none.clauses 𝓤 H A mem run) tt tt tt u′)))) (id⊢ 𝓤 _) $ w-await ! tt $ w-pick ! (λ u1.
           w-split ! $ w-move ! (1 ∷ []) $ use1 W (some (λ (zs1 : Unit {0}). ‵ (lasts f-none.ended tt tt zs1) ⊛ raw (fact 𝓤 (u1 ≡ noUpdate)))) (id⊢ 𝓤 _) $ w-pick ! (λ zs1. w-split ! $ w-move ! (1 ∷ []) $ w-heard ! (u1 ≡ noUpdate) (λ d1.
           w-drop ! $
           w-split ! $ w-move ! (1 ∷ []) $ w-peeks ! T-Update.the-row (Is T-Update.the-row) (shows 𝓤 H A T-Update.the-row) u1 (r1 ∷ []) (λ is1. w-land ! (w-from ! (w-stop !)) (w-init ! 8 refl (LL.lawful T-Update.the-type L-Update.the-laws 𝓤 H A W .typed u1 _ is1 .0)) $
@@ -194,7 +194,7 @@ module _ {M : Type 1} (𝓤 : URA M) (H : Heap 𝓤) (A : Atoms 𝓤) (W : Given
           w-nothing ! $ w-move ! (3 ∷ 0 ∷ []) $ w-join ! $
           use2 W (raw (C-put-update 𝓤 H A mem run .pre (((ν2-0 ∷ [], tt), (fullShare, tt), tt, (ref-us δ2-0 v-us, (i, (u1, tt))), (sliceVal (b-us, o-us) (length v-us) ∷ [], (vint w64 i ∷ [], (r1 ∷ [], tt)))), tt))) (asked2 i v-us len-us kept small u1 r1 is1 d1 ν2-0 δ2-0) $
           w-calls-at ! fm (C-put-update 𝓤 H A mem run) known-put-update (((ν2-0 ∷ [], tt), (fullShare, tt), tt, (ref-us δ2-0 v-us, (i, (u1, tt))), (sliceVal (b-us, o-us) (length v-us) ∷ [], (vint w64 i ∷ [], (r1 ∷ [], tt)))), tt) (w-and-then ! (w-load ! (w-from ! (w-stop !)) (w-look ! 10 refl)) (w-and-then ! (w-load ! (w-from ! (w-stop !)) (w-look ! 5 refl)) (w-and-then ! (w-load ! (w-from ! (w-stop !)) (w-look ! 6 refl)) (w-no-more !)))) (λ r2.
-          use1 W (later (some (λ (u : Unit {0}). ((‵ (flft (ν2-0 ∷ []) fullShare) ⊛ ‵ ftrue) ⊛ ‵ (Nothing .own u (r2 ∷ []))) ⊛ raw (ensured 𝓤 H A f-put-update.ended (f-put-update.clauses 𝓤 H A mem run) (ν2-0 ∷ [], tt) (ref-us δ2-0 v-us, (i, (u1, tt))) tt u)))) (id⊢ 𝓤 _) $ w-await ! tt $ w-pick ! (λ u2.
+          use1 W (later (some (λ (u′ : Unit {0}). ((‵ (flft (ν2-0 ∷ []) fullShare) ⊛ ‵ ftrue) ⊛ ‵ (Nothing .own u′ (r2 ∷ []))) ⊛ raw (ensured 𝓤 H A f-put-update.ended (f-put-update.clauses 𝓤 H A mem run) (ν2-0 ∷ [], tt) (ref-us δ2-0 v-us, (i, (u1, tt))) tt u′)))) (id⊢ 𝓤 _) $ w-await ! tt $ w-pick ! (λ u2.
           w-split ! $ w-move ! (1 ∷ []) $ use1 W (some (λ (zs2 : List Update × (Unit {0} × (Unit {0} × Unit {0}))). ‵ (lasts f-put-update.ended (ν2-0 ∷ [], tt) (ref-us δ2-0 v-us, (i, (u1, tt))) zs2) ⊛ raw (fact 𝓤 ((zs2 .0) ≡ set (v-us) i u1)))) (id⊢ 𝓤 _) $ w-pick ! (λ zs2. w-split ! $ w-move ! (1 ∷ []) $ w-heard ! ((zs2 .0) ≡ set (v-us) i u1) (λ d2.
           w-fsplit ! $ w-fsplit ! $ w-move ! (1 ∷ []) $ w-feqL ! (λ same2-us. w-move ! (1 ∷ []) $ w-fsplit ! $ w-drop ! $ w-fsplit ! $ w-drop ! $ w-drop ! $
           w-move ! (1 ∷ []) $ w-split ! $ w-move ! (1 ∷ []) $ w-peeks ! Nothing (Is Nothing) (shows 𝓤 H A Nothing) u2 (r2 ∷ []) (λ is2. w-land ! (w-from ! (w-stop !)) (w-init ! 10 refl (nothing-lawful 𝓤 H A W .typed u2 _ is2 .0)) $
