@@ -4,6 +4,7 @@ ghost use mathlib.Core.Path.{_≡_};
 ghost use mathlib.Core.List.{_++_};
 ghost use Prim.Native.Nat.{_≤_};
 ghost use lib.ListN.{length, drop};
+ghost use Rattle.statement.specs.Answers.{number};
 ghost use Rattle.crossing.specs.Words.{stageWord, answerWords, outcomeWords, handed, orderSaid, stopSaid, stageSaid, recordSaid};
 use answers::first_detail;
 use answers::number;
@@ -54,6 +55,16 @@ pub fn outcome_words(x: Outcome) -> [usize; 12]
         r.entries,
         r.work,
     ]
+}
+
+// The outcome's words to the lent ones; its number is returned.
+pub fn cross(x: Outcome, results: &mut [usize; 12]) -> usize
+    ensures { λ r. ⌜ (now (results .exit) ≡ outcomeWords x) × (r ≡ number (x .answer)) ⌝ }
+{
+    let w = outcome_words(x);
+    *results = w;
+    let a = x.answer;
+    number(a)
 }
 
 pub fn order_of(word: usize) -> Order

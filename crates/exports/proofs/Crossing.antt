@@ -15,33 +15,36 @@ use Rattle.statement.specs.declared.Outcome.{Outcome}
 use Rattle.statement.specs.declared.Record.{Record}
 use Rattle.statement.specs.declared.Room.{Room}
 use Rattle.statement.specs.declared.Stop.{Stop}
-use Rattle.survey.specs.Settles.{Settles}
+use Rattle.statement.specs.declared.Update.{Update}
+use Rattle.survey.specs.Settles.{SettlesPlain, Settles}
 use Rattle.factor.specs.Filled.{FactorSettles}
 use Rattle.crossing.specs.Words.{answerWords, outcomeWords, handed}
 use Rattle.exports.specs.Crossed.{AnalyseCrossed, FactorCrossed, SolveCrossed, ColumnCrossed}
 
-said-so : {said : Settled} {x : Outcome} {permutation firsts starts groups tasks top words nine : List ℕ} {ten : List (List ℕ)} → Settles said x permutation firsts starts groups tasks top words nine ten
-    → Settles said (said .returned) permutation firsts starts groups tasks top words nine ten
-said-so s = record { out = refl; one = s .one; two = s .two; three = s .three; four = s .four; five = s .five; six = s .six; seven = s .seven; nine-holds = s .nine-holds; ten-holds = s .ten-holds }
+said-so : {said : Settled} {x : Outcome} {permutation firsts starts groups tasks top words nine : List ℕ} → SettlesPlain said x permutation firsts starts groups tasks top words nine
+    → SettlesPlain said (said .returned) permutation firsts starts groups tasks top words nine
+said-so s = record { out = refl; one = s .one; two = s .two; three = s .three; four = s .four; five = s .five; six = s .six; seven = s .seven; nine-holds = s .nine-holds }
 
-module _ {said : Settled} {x : Outcome} {permutation firsts starts groups tasks top words nine : List ℕ} {ten : List (List ℕ)} {r : ℕ} {results : List ℕ} where
+module _ {said : Settled} {x : Outcome} {permutation firsts starts groups tasks top words nine : List ℕ} {ten : List Update} {r : ℕ} {results : List ℕ} where
   pub analysed : Settles said x permutation firsts starts groups tasks top words nine ten → results ≡ outcomeWords x → r ≡ number (x .answer)
       → AnalyseCrossed said r results permutation firsts starts groups tasks top words nine ten
   analysed s w k = record {
-    numbered = k ∙ ap (λ y. number (y .answer)) (s .out);
-    worded = w ∙ ap outcomeWords (s .out);
-    areas = said-so s;
+    numbered = k ∙ ap (λ y. number (y .answer)) (s .plain .out);
+    worded = w ∙ ap outcomeWords (s .plain .out);
+    areas = record { plain = said-so (s .plain); ten-holds = s .ten-holds };
   }
 
   whole : {floats values : List Float} → FactorSettles said x permutation firsts starts groups tasks top words floats nine ten values → results ≡ outcomeWords x → r ≡ number (x .answer)
       → FactorCrossed said r results permutation firsts starts groups tasks top words floats nine ten values
-  whole s w k = record {
-    numbered = k ∙ ap (λ y. number (y .answer)) (s .structure .out);
-    worded = w ∙ ap outcomeWords (s .structure .out);
-    areas = record { structure = said-so (s .structure); eight = s .eight; eleven = s .eleven };
-  }
+  whole s w k =
+      let p = s .plain in
+      record {
+        numbered = k ∙ ap (λ y. number (y .answer)) (p .structure .out);
+        worded = w ∙ ap outcomeWords (p .structure .out);
+        areas = record { plain = record { structure = said-so (p .structure); eight = p .eight; eleven = p .eleven }; ten-holds = s .ten-holds };
+      }
 
-module _ (M : Matrix) (cap : ℕ) (list : List ℕ) (room : Room) {x : Outcome} {permutation firsts starts groups tasks top words : List ℕ} {floats : List Float} {nine : List ℕ} {ten : List (List ℕ)} {values : List Float} {r : ℕ} {results : List ℕ} where
+module _ (M : Matrix) (cap : ℕ) (list : List ℕ) (room : Room) {x : Outcome} {permutation firsts starts groups tasks top words : List ℕ} {floats : List Float} {nine : List ℕ} {ten : List Update} {values : List Float} {r : ℕ} {results : List ℕ} where
   pub factored : {o o′ : Order} {e e′ : Stop} → o ≡ o′ → e ≡ e′ → FactorSettles (factor M cap o list e room) x permutation firsts starts groups tasks top words floats nine ten values
       → results ≡ outcomeWords x → r ≡ number (x .answer)
       → FactorCrossed (factor M cap o′ list e′ room) r results permutation firsts starts groups tasks top words floats nine ten values

@@ -7,17 +7,18 @@ use lib.Ieee.{Float}
 use Rattle.statement.specs.Answers.{number}
 use Rattle.statement.specs.Calls.{Settled}
 use Rattle.statement.specs.Solve.{Solved}
+use Rattle.statement.specs.declared.Update.{Update}
 use Rattle.survey.specs.Settles.{Settles}
 use Rattle.factor.specs.Filled.{FactorSettles}
 use Rattle.crossing.specs.Words.{answerWords, outcomeWords, handed}
 
 -- the number is returned, the outcome's words are lent back, and the areas are as analyse leaves them
-pub record AnalyseCrossed (said : Settled) (r : ℕ) (results permutation firsts starts groups tasks top words nine : List ℕ) (ten : List (List ℕ)) : Type 0 where
+pub record AnalyseCrossed (said : Settled) (r : ℕ) (results permutation firsts starts groups tasks top words nine : List ℕ) (ten : List Update) : Type 0 where
   pub numbered : r ≡ number (said .returned .answer)
   pub worded : results ≡ outcomeWords (said .returned)
   pub areas : Settles said (said .returned) permutation firsts starts groups tasks top words nine ten
 
-pub record FactorCrossed (said : Settled) (r : ℕ) (results permutation firsts starts groups tasks top words : List ℕ) (floats : List Float) (nine : List ℕ) (ten : List (List ℕ)) (values : List Float) : Type 0 where
+pub record FactorCrossed (said : Settled) (r : ℕ) (results permutation firsts starts groups tasks top words : List ℕ) (floats : List Float) (nine : List ℕ) (ten : List Update) (values : List Float) : Type 0 where
   pub numbered : r ≡ number (said .returned .answer)
   pub worded : results ≡ outcomeWords (said .returned)
   pub areas : FactorSettles said (said .returned) permutation firsts starts groups tasks top words floats nine ten values

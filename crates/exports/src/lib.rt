@@ -11,15 +11,16 @@ ghost use Rattle.exports.specs.Crossed.{AnalyseCrossed, FactorCrossed, S
 use analyse::analyse;
 use answers::number;
 use crossing::answer_words;
+use crossing::cross;
 use crossing::hand;
 use crossing::order_of;
-use crossing::outcome_words;
 use crossing::record_of;
 use crossing::stop_of;
 use factor::factor;
 use solve::column;
 use solve::solve;
 use statement::Factored;
+use statement::Update;
 
 // analyse; the number is returned, and results has the words of the outcome.
 #[no_mangle]
@@ -37,7 +38,7 @@ pub extern "C" fn nosebagged_analyse(
     top: &mut [usize],
     words: &mut [usize],
     rows: &mut [usize],
-    updates: &mut [[usize; 3]],
+    updates: &mut [Update],
     results: &mut [usize; 12],
 ) -> usize
     ensures { λ r. ⌜ AnalyseCrossed (analyse (matrix n (now («input_starts» .entry)) (now («input_rows» .entry)) (now («input_values» .entry))) cap (lentStructure (length (now (permutation .entry))) (length (now (firsts .entry))) (length (now (starts .entry))) (length (now (groups .entry))) (length (now (tasks .entry))) (length (now (top .entry))) (length (now (words .entry))) (length (now (rows .entry))) (length (now (updates .entry))))) r (now (results .exit)) (now (permutation .exit)) (now (firsts .exit)) (now (starts .exit)) (now (groups .exit)) (now (tasks .exit)) (now (top .exit)) (now (words .exit)) (now (rows .exit)) (now (updates .exit)) ⌝ }
@@ -58,10 +59,7 @@ pub extern "C" fn nosebagged_analyse(
         rows,
         updates,
     );
-    let w = outcome_words(found);
-    *results = w;
-    let a = found.answer;
-    number(a)
+    cross(found, results)
 }
 
 // factor, in the order and up to the stop that the words say.
@@ -84,21 +82,23 @@ pub extern "C" fn nosebagged_factor(
     words: &mut [usize],
     floats: &mut [f64],
     rows: &mut [usize],
-    updates: &mut [[usize; 3]],
+    updates: &mut [Update],
     values: &mut [f64],
     results: &mut [usize; 12],
 ) -> usize
     ensures { λ r. ⌜ FactorCrossed (factor (matrix n (now («input_starts» .entry)) (now («input_rows» .entry)) (now («input_values» .entry))) cap (orderSaid order) (now (list .entry)) (stopSaid stop) (lentAll (length (now (permutation .entry))) (length (now (firsts .entry))) (length (now (starts .entry))) (length (now (groups .entry))) (length (now (tasks .entry))) (length (now (top .entry))) (length (now (words .entry))) (length (now (floats .entry))) (length (now (rows .entry))) (length (now (updates .entry))) (length (now (values .entry))))) r (now (results .exit)) (now (permutation .exit)) (now (firsts .exit)) (now (starts .exit)) (now (groups .exit)) (now (tasks .exit)) (now (top .exit)) (now (words .exit)) (now (floats .exit)) (now (rows .exit)) (now (updates .exit)) (now (values .exit)) ⌝ }
 {
+    let o = order_of(order);
+    let e = stop_of(stop);
     let made = factor(
         n,
         input_starts,
         input_rows,
         input_values,
         cap,
-        order_of(order),
+        o,
         list,
-        stop_of(stop),
+        e,
         permutation,
         firsts,
         starts,
@@ -111,10 +111,7 @@ pub extern "C" fn nosebagged_factor(
         updates,
         values,
     );
-    let w = outcome_words(made);
-    *results = w;
-    let a = made.answer;
-    number(a)
+    cross(made, results)
 }
 
 // solve with the record in its nine words; the number is returned, and answer has it with its details.

@@ -15,11 +15,14 @@ use Rattle.statement.specs.Job.{Frames, Reading, whole, fault, matrixOf, jobRoo
 use Rattle.statement.specs.declared.Answer.{Answer}
 use Rattle.statement.specs.declared.Answer.the-variants.{Accepted, OverLimit, WrongLengths, WrongStarts, WrongColumn, ShortArea, OverCap, WrongOrder, WrongPivot, WrongSide, NoFactor, WrongStructure, WrongFrame}
 use Rattle.statement.specs.declared.Outcome.{Outcome}
+use Rattle.statement.specs.declared.Order.{Order}
 use Rattle.statement.specs.declared.Order.the-variants.{Plain}
+use Rattle.statement.specs.declared.Stop.{Stop}
+use Rattle.statement.specs.declared.Update.{Update}
 use Rattle.statement.specs.declared.Stop.the-variants.{End}
 use Rattle.statement.specs.declared.Room.{Room}
 use Rattle.laws.specs.Lent.{lent}
-use Rattle.factor.specs.Filled.{FactorSettles}
+use Rattle.factor.specs.Filled.{FactorSettles, lentAll}
 use Rattle.frames.specs.Held.{readingOf, answerOf, Kept, Done}
 use Rattle.frames.specs.declared.Read.{Read}
 use Rattle.frames.specs.declared.Read.the-variants.{Whole, Fault}
@@ -69,18 +72,31 @@ module _ (j : Frames) {x : Outcome} {f : FactorAreas} {b : List Float} {words fl
   accepted-is s h z = told-yes x (s .b) h ∙ ap (λ t. told x (t .b)) z ∙ told-is
 
 -- what factor settles over a job's areas is the job's
-pub made : (j : Frames) {M : Matrix} {cap : ℕ} {list : List ℕ} {room : Room} {x : Outcome} {p f s g t o w : List ℕ} {y : List Float} {n : List ℕ} {u : List (List ℕ)} {v b : List Float} {words floats : ℕ}
-    → M ≡ matrixOf j → cap ≡ j .cap → list ≡ [] → room ≡ jobRoom → FactorSettles (factor M cap Plain list End room) x p f s g t o w y n u v → b ≡ j .b → words ≡ jobRoom .words → floats ≡ jobRoom .floats → Made j x (lent p f s n v) b words floats
+pub made : (j : Frames) {M : Matrix} {cap : ℕ} {o : Order} {list : List ℕ} {e : Stop} {room : Room} {x : Outcome} {p f s g t top w : List ℕ} {y : List Float} {n : List ℕ} {u : List Update} {v b : List Float} {words floats : ℕ}
+    → M ≡ matrixOf j → cap ≡ j .cap → o ≡ Plain → list ≡ [] → e ≡ End → room ≡ jobRoom → FactorSettles (factor M cap o list e room) x p f s g t top w y n u v → b ≡ j .b → words ≡ jobRoom .words → floats ≡ jobRoom .floats → Made j x (lent p f s n v) b words floats
 unfolding factoredIn
-made j m c l r h d w y =
-    let e : factor _ _ Plain _ End _ ≡ factored j = λ i. factor (m i) (c i) Plain (l i) End (r i) in
+made j m c o l e r h d w y =
+    let is : factor _ _ _ _ _ _ ≡ factored j = λ i. factor (m i) (c i) (o i) (l i) (e i) (r i) in
+    let k = h .plain .structure in
     record {
-      out = h .structure .out ∙ ap (λ z. z .returned) e;
-      areas = λ i. lent ((h .structure .one ∙ ap (λ z. z .areas .permutation) e) i) ((h .structure .two ∙ ap (λ z. z .areas .firsts) e) i) ((h .structure .three ∙ ap (λ z. z .areas .starts) e) i) ((h .structure .nine-holds ∙ ap (λ z. z .areas .rows) e) i) ((h .eleven ∙ ap (λ z. z .areas .values) e) i);
+      out = k .out ∙ ap (λ z. z .returned) is;
+      areas = λ i. lent ((k .one ∙ ap (λ z. z .areas .permutation) is) i) ((k .two ∙ ap (λ z. z .areas .firsts) is) i) ((k .three ∙ ap (λ z. z .areas .starts) is) i) ((k .nine-holds ∙ ap (λ z. z .areas .rows) is) i) ((h .plain .eleven ∙ ap (λ z. z .areas .values) is) i);
       right = d;
       seven = w;
       eight = y;
     }
+
+-- areas and updates as long as a job's
+module _ {p f s g t top w y n v : ℕ} where
+  pub roomed : {u : ℕ} → u ≡ 8256 → lentAll p f s g t top w y n (jobRoom .updates) v ≡ jobRoom → lentAll p f s g t top w y n u v ≡ jobRoom
+  unfolding jobRoom
+  roomed e r = ap (λ z. lentAll p f s g t top w y n z v) e ∙ r
+
+  pub words-of : {u : ℕ} → lentAll p f s g t top w y n u v ≡ jobRoom → w ≡ jobRoom .words
+  words-of r = ap (λ z. z .words) r
+
+  pub floats-of : {u : ℕ} → lentAll p f s g t top w y n u v ≡ jobRoom → y ≡ jobRoom .floats
+  floats-of r = ap (λ z. z .floats) r
 
 -- the same text, by another name
 pub wrote-as : (out₀ : List ℕ) {s t out : List ℕ} {r : ℕ} → s ≡ t → Wrote s r out₀ out → Wrote t r out₀ out

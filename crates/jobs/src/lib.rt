@@ -1,46 +1,91 @@
 // A job, from its text to the text of its answer.
 ghost use mathlib.Core.Path.{_≡_};
+ghost use mathlib.Core.List.{[]};
 ghost use Prim.Native.Nat.{_≤_};
 ghost use lib.ListN.{length};
 ghost use Rattle.statement.specs.Input.{matrix};
-ghost use Rattle.statement.specs.Job.{Frames, whole, matrixOf, written, job};
-ghost use Rattle.laws.specs.Lent.{lent};
+ghost use Rattle.statement.specs.Job.{Frames, whole, matrixOf, jobRoom, written, job};
+ghost use Rattle.statement.specs.declared.Order.the-variants.{Plain};
+ghost use Rattle.statement.specs.declared.Stop.the-variants.{End};
+ghost use Rattle.factor.specs.Filled.{lentAll};
 ghost use Rattle.lines.specs.Placed.{placed};
-ghost use Rattle.jobs.specs.Worked.{Wrote, Made};
+ghost use Rattle.jobs.specs.Worked.{Wrote};
+
+mod answer;
+
+use answer::answer;
 use factor::factor;
 use frames::Read;
 use frames::read_job;
 use lines::put_refusal;
-use lines::put_success;
-use solve::solve;
 use statement::Answer;
 use statement::Order;
-use statement::Outcome;
 use statement::Stop;
+use update::none;
 
-// Solves with a job's factor where there is one, and writes the answer.
-fn answer(
-    x: Outcome,
-    permutation: &[usize],
-    firsts: &[usize],
-    starts: &[usize],
-    rows: &[usize],
-    values: &[f64],
+fn plain_order() -> Order
+    ensures { λ r. ⌜ r ≡ Plain ⌝ }
+{
+    Order::Plain
+}
+
+fn no_stop() -> Stop
+    ensures { λ r. ⌜ r ≡ End ⌝ }
+{
+    Stop::End
+}
+
+// Factors a job's matrix in lent areas, and as many updates as 01 gives a job, and answers it.
+fn work_in(
+    n: usize,
+    input_starts: &[usize],
+    input_rows: &[usize],
+    input_values: &[f64],
+    cap: usize,
+    list: &[usize],
+    permutation: &mut [usize],
+    firsts: &mut [usize],
+    starts: &mut [usize],
+    groups: &mut [usize],
+    tasks: &mut [usize],
+    top: &mut [usize],
     words: &mut [usize],
     floats: &mut [f64],
+    rows: &mut [usize],
+    values: &mut [f64],
     b: &mut [f64],
     out: &mut [u8; 2959],
 ) -> usize
     requires { ⌜ length (now b) ≤ 128 ⌝ }
-    ensures { λ r. ⌜ ((j : Frames) → Made j x (lent (now (permutation .entry)) (now (firsts .entry)) (now (starts .entry)) (now (rows .entry)) (now (values .entry))) (now (b .entry)) (length (now (words .entry))) (length (now (floats .entry))) → Wrote (written (whole j)) r (now (out .entry)) (now (out .exit))) ⌝ }
+    ensures { λ r. ⌜ ((j : Frames) → matrix n (now («input_starts» .entry)) (now («input_rows» .entry)) (now («input_values» .entry)) ≡ matrixOf j → cap ≡ j .cap → now (list .entry) ≡ [] → lentAll (length (now (permutation .entry))) (length (now (firsts .entry))) (length (now (starts .entry))) (length (now (groups .entry))) (length (now (tasks .entry))) (length (now (top .entry))) (length (now (words .entry))) (length (now (floats .entry))) (length (now (rows .entry))) (jobRoom .updates) (length (now (values .entry))) ≡ jobRoom → now (b .entry) ≡ j .b → Wrote (written (whole j)) r (now (out .entry)) (now (out .exit))) ⌝ }
 {
-    let a = x.answer;
-    let Answer::Accepted = a else {
-        return put_refusal(out, a);
-    };
-    let record = x.record;
-    solve(
-        record,
+    let o = plain_order();
+    let e = no_stop();
+    let u = none();
+    let mut updates = [u; 8256];
+    let x = factor(
+        n,
+        input_starts,
+        input_rows,
+        input_values,
+        cap,
+        o,
+        list,
+        e,
+        permutation,
+        firsts,
+        starts,
+        groups,
+        tasks,
+        top,
+        words,
+        floats,
+        rows,
+        &mut updates,
+        values,
+    );
+    answer(
+        x,
         permutation,
         firsts,
         starts,
@@ -49,11 +94,11 @@ fn answer(
         words,
         floats,
         b,
-    );
-    put_success(out, record.entries, record.supernodes, b)
+        out,
+    )
 }
 
-// Factors a job's matrix in areas as long as 01 gives a job, and answers it.
+// The same in areas as long as 01 gives a job.
 fn work(
     n: usize,
     input_starts: &[usize],
@@ -75,17 +120,14 @@ fn work(
     let mut words = [0; 7192];
     let mut floats = [0.0; 4224];
     let mut rows = [0; 8256];
-    let mut updates = [[0; 3]; 8256];
     let mut values = [0.0; 8192];
-    let x = factor(
+    work_in(
         n,
         input_starts,
         input_rows,
         input_values,
         cap,
-        Order::Plain,
         &input_rows[..0],
-        Stop::End,
         &mut permutation,
         &mut firsts,
         &mut starts,
@@ -95,18 +137,7 @@ fn work(
         &mut words,
         &mut floats,
         &mut rows,
-        &mut updates,
         &mut values,
-    );
-    answer(
-        x,
-        &permutation,
-        &firsts,
-        &starts,
-        &rows,
-        &values,
-        &mut words,
-        &mut floats,
         b,
         out,
     )

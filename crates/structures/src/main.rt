@@ -1,6 +1,8 @@
 // Compares the structure with the Rust's: each line of standard input is a matrix (n, a, its n + 1 starts, its a rows),
 // and a line of sixteen numbers answers it. The two lists come from tests/structures. A line that is no such matrix, or
 // has more than 8,192 numbers, ends the program.
+ghost use Prim.Native.Nat.{_≤_};
+
 mod sums;
 
 use analyse::analyse;
@@ -12,7 +14,8 @@ use lists::numbers;
 use statement::Outcome;
 use std::num::wrapping_add_usize;
 use sums::sum;
-use sums::sum_triples;
+use sums::sum_updates;
+use update::none;
 
 // Each number in 16 digits, one space apart.
 fn print_line(words: &[u64; 16]) {
@@ -26,7 +29,7 @@ fn print_line(words: &[u64; 16]) {
     io::write_all(STDOUT_FILENO, &out);
 }
 
-// The number and the counts, and then the sum of each list.
+// The number and the counts, and then the sum of each list; that of the updates is given.
 fn print(
     x: Outcome,
     permutation: &[usize],
@@ -36,7 +39,7 @@ fn print(
     tasks: &[usize],
     top: &[usize],
     rows: &[usize],
-    updates: &[[usize; 3]],
+    updates: u64,
 ) {
     let a = x.answer;
     let r = x.record;
@@ -55,14 +58,63 @@ fn print(
         sum(starts, ends),
         sum(rows, r.rows),
         sum(groups, ends),
-        sum_triples(updates, r.updates),
+        updates,
         sum(tasks, wrapping_add_usize(r.tasks, r.tasks)),
         sum(top, r.top),
     ];
     print_line(&words);
 }
 
-// Analyses a matrix, in areas that are long enough for every matrix of the list.
+// How many updates there are, or `most` where there are more.
+fn count(x: Outcome, most: usize) -> usize
+    ensures { λ r. ⌜ r ≤ most ⌝ }
+{
+    let r = x.record;
+    if r.updates < most {
+        return r.updates;
+    }
+    most
+}
+
+// Analyses a matrix, in lent areas and as many updates as every matrix of the list needs.
+fn answer_in(
+    n: usize,
+    input_starts: &[usize],
+    input_rows: &[usize],
+    input_values: &[f64],
+    permutation: &mut [usize],
+    firsts: &mut [usize],
+    starts: &mut [usize],
+    groups: &mut [usize],
+    tasks: &mut [usize],
+    top: &mut [usize],
+    words: &mut [usize],
+    rows: &mut [usize],
+) {
+    let u = none();
+    let mut updates = [u; 65536];
+    let x = analyse(
+        n,
+        input_starts,
+        input_rows,
+        input_values,
+        usize::MAX,
+        permutation,
+        firsts,
+        starts,
+        groups,
+        tasks,
+        top,
+        words,
+        rows,
+        &mut updates,
+    );
+    let c = count(x, 65536);
+    let s = sum_updates(&updates, c);
+    print(x, permutation, firsts, starts, groups, tasks, top, rows, s);
+}
+
+// The same in areas that are long enough for every matrix of the list.
 fn answer(n: usize, input_starts: &[usize], input_rows: &[usize], input_values: &[f64]) {
     let mut permutation = [0; 4096];
     let mut firsts = [0; 4096];
@@ -72,13 +124,11 @@ fn answer(n: usize, input_starts: &[usize], input_rows: &[usize], input_values: 
     let mut top = [0; 4096];
     let mut words = [0; 65536];
     let mut rows = [0; 65536];
-    let mut updates = [[0; 3]; 65536];
-    let x = analyse(
+    answer_in(
         n,
         input_starts,
         input_rows,
         input_values,
-        usize::MAX,
         &mut permutation,
         &mut firsts,
         &mut starts,
@@ -87,18 +137,6 @@ fn answer(n: usize, input_starts: &[usize], input_rows: &[usize], input_values: 
         &mut top,
         &mut words,
         &mut rows,
-        &mut updates,
-    );
-    print(
-        x,
-        &permutation,
-        &firsts,
-        &starts,
-        &groups,
-        &tasks,
-        &top,
-        &rows,
-        &updates,
     );
 }
 

@@ -1,6 +1,10 @@
 // The sum of a list, by which two lists are compared.
+ghost use Prim.Native.Nat.{_≤_};
+ghost use lib.ListN.{length};
 use lists::added;
+use statement::Update;
 use std::num::wrapping_add_u64;
+use update::update_at;
 
 // The sum with one word more, which counts as the next number.
 fn counted(h: u64, x: usize) -> u64 {
@@ -18,12 +22,19 @@ pub fn sum(list: &[usize], m: usize) -> u64 {
     h
 }
 
-// Of the words of the first m triples, or of all where there are fewer.
-pub fn sum_triples(list: &[[usize; 3]], m: usize) -> u64 {
-    let mut h = 0;
-    let mut i = 0;
-    while i < m && i < list.len() {
-        h = counted(counted(counted(h, list[i][0]), list[i][1]), list[i][2]);
+fn counted_update(h: u64, u: Update) -> u64 {
+    counted(counted(counted(h, u.supernode), u.p1), u.p2)
+}
+
+// Of the words of the first m updates.
+pub fn sum_updates(list: &[Update], m: usize) -> u64
+    requires { ⌜ m ≤ length (now list) ⌝ }
+{
+    let mut h: u64 = 0;
+    let mut i: usize = 0;
+    while i < m {
+        let u = update_at(list, i);
+        h = counted_update(h, u);
         i += 1;
     }
     h

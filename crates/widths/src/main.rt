@@ -19,6 +19,7 @@ use statement::Order;
 use statement::Outcome;
 use statement::Stop;
 use std::num::nearest_u64_to_f64;
+use update::none;
 
 // The right side: b(i) = i + 1.
 fn put_side(b: &mut [f64]) {
@@ -57,6 +58,63 @@ fn solve_and_print(
     print(x, sum(values, record.entries), a, sum(b, b.len()));
 }
 
+// One run, in lent areas and as many updates as every matrix of the list needs.
+fn run_in(
+    n: usize,
+    input_starts: &[usize],
+    input_rows: &[usize],
+    input_values: &[f64],
+    order: Order,
+    list: &[usize],
+    stop: Stop,
+    permutation: &mut [usize],
+    firsts: &mut [usize],
+    starts: &mut [usize],
+    groups: &mut [usize],
+    tasks: &mut [usize],
+    top: &mut [usize],
+    words: &mut [usize],
+    floats: &mut [f64],
+    rows: &mut [usize],
+    values: &mut [f64],
+    b: &mut [f64],
+) {
+    let u = none();
+    let mut updates = [u; 16384];
+    let x = factor(
+        n,
+        input_starts,
+        input_rows,
+        input_values,
+        usize::MAX,
+        order,
+        list,
+        stop,
+        permutation,
+        firsts,
+        starts,
+        groups,
+        tasks,
+        top,
+        words,
+        floats,
+        rows,
+        &mut updates,
+        values,
+    );
+    solve_and_print(
+        x,
+        permutation,
+        firsts,
+        starts,
+        rows,
+        values,
+        words,
+        floats,
+        b,
+    );
+}
+
 // One run, in areas that are long enough for every matrix of the list.
 fn run(
     n: usize,
@@ -77,14 +135,12 @@ fn run(
     let mut words = [0; 16384];
     let mut floats = [0.0; 16384];
     let mut rows = [0; 16384];
-    let mut updates = [[0; 3]; 16384];
     let mut values = [0.0; 16384];
-    let x = factor(
+    run_in(
         n,
         input_starts,
         input_rows,
         input_values,
-        usize::MAX,
         order,
         list,
         stop,
@@ -97,18 +153,7 @@ fn run(
         &mut words,
         &mut floats,
         &mut rows,
-        &mut updates,
         &mut values,
-    );
-    solve_and_print(
-        x,
-        &permutation,
-        &firsts,
-        &starts,
-        &rows,
-        &values,
-        &mut words,
-        &mut floats,
         b,
     );
 }

@@ -1,10 +1,10 @@
--- `jobs::answer` meets its contract: a refusal is written, or the solution. Assumes nothing.
+-- `jobs::answer::answer` meets its contract: a refusal is written, or the solution. Assumes nothing.
 use native.Mathlib.Omega.{arith}
 use borrow.Author.Needs.{needs}
 use Rattle.room.proofs.Short.{accepted-first}
 use Rattle.jobs.proofs.Working.{refused-is, accepted-is, wrote-as}
-use Rattle.jobs.proofs.answer.Statement.{statement}
-use Rattle.jobs.proofs.answer.Tie as tie
+use Rattle.jobs.proofs.answer.answer.Statement.{statement}
+use Rattle.jobs.proofs.answer.answer.Tie as tie
 
 returns : tie.Need-returns
 returns c =
