@@ -8,7 +8,7 @@
 mod cholesky;
 mod nosebagged;
 use cholesky::{FactorError, Symbolic, UpperColumns};
-use nosebagged::{Areas, Matrix, Order, Record, Refusal, Stop};
+use nosebagged::{Areas, Matrix, Order, Record, Refusal, Stop, Update};
 use std::hint::black_box;
 
 // Upper columns by a test of the place (i, k), each with its value.
@@ -57,14 +57,14 @@ fn touched(mut s: Areas) -> Areas {
     for l in [&mut s.permutation, &mut s.firsts, &mut s.starts, &mut s.groups, &mut s.tasks, &mut s.top, &mut s.words, &mut s.rows] {
         l.fill(1);
     }
-    s.updates.fill([1; 3]);
+    s.updates.fill(Update { supernode: 1, p1: 1, p2: 1 });
     s.floats.fill(1.0);
     s.values.fill(1.0);
     s
 }
 
 fn same_structure(r: &Record, s: &Areas, y: &Symbolic) {
-    let updates: Vec<[usize; 3]> = y.updates.iter().flatten().map(|u| [u.k, u.p1, u.p2]).collect();
+    let updates: Vec<Update> = y.updates.iter().flatten().map(|u| Update { supernode: u.k, p1: u.p1, p2: u.p2 }).collect();
     let tasks: Vec<usize> = y.tasks.iter().flat_map(|t| [t.start, t.end]).collect();
     let ns = y.supernodes();
     assert_eq!(r.0[1..8], [y.n, ns, y.structure.rows.len(), updates.len(), y.tasks.len(), y.top.len(), y.entries]);

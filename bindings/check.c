@@ -14,7 +14,8 @@ static void check(int holds, const char *what) {
 int main(void) {
     const size_t input_starts[] = {0, 1, 3}, input_rows[] = {0, 0, 1}, list[1] = {0};
     const double input_values[] = {4, 2, 5};
-    size_t permutation[2], firsts[3], starts[3], groups[3], tasks[4], top[2], words[75], rows[2], updates[1][3];
+    size_t permutation[2], firsts[3], starts[3], groups[3], tasks[4], top[2], words[75], rows[2];
+    struct nosebagged_update updates[1];
     double floats[5], values[3], b[] = {8, 12}, column[2];
     size_t results[NOSEBAGGED_RESULTS], answer[3];
 
@@ -36,13 +37,14 @@ int main(void) {
     r = nosebagged_solve(results + NOSEBAGGED_RECORD, permutation, 2, firsts, 3, starts, 3, rows, 2, values, 3, words, 75, floats, 5, b, 2, answer);
     check(r == NOSEBAGGED_NO_FACTOR && b[0] == 1 && b[1] == 2, "no solve after a refusal");
 
-    /* an arrow of three columns: three supernodes, of which the first two update the third; an update is a triple */
+    /* an arrow of three columns: three supernodes, of which the first two update the third */
     const size_t arrow_starts[] = {0, 1, 2, 5}, arrow_rows[] = {0, 1, 0, 1, 2};
     const double arrow_values[] = {4, 4, 1, 1, 4};
-    size_t p3[3], f4[4], s4[4], g4[4], t6[6], o3[3], w101[101], r5[5], u[3][3];
+    size_t p3[3], f4[4], s4[4], g4[4], t6[6], o3[3], w101[101], r5[5];
+    struct nosebagged_update u[3];
     r = nosebagged_analyse(3, arrow_starts, 4, arrow_rows, 5, arrow_values, 5, 100, p3, 3, f4, 4, s4, 4, g4, 4, t6, 6, o3, 3, w101, 101, r5, 5, u, 3, results);
     check(r == NOSEBAGGED_ACCEPTED && results[NOSEBAGGED_SUPERNODES] == 3 && results[NOSEBAGGED_UPDATES] == 2, "analyse of an arrow");
-    check(u[0][0] == 0 && u[0][1] == 1 && u[0][2] == 2 && u[1][0] == 1 && u[1][1] == 1 && u[1][2] == 2 && u[2][0] == 0 && u[2][2] == 0, "its updates");
+    check(u[0].supernode == 0 && u[0].p1 == 1 && u[0].p2 == 2 && u[1].supernode == 1 && u[1].p1 == 1 && u[1].p2 == 2 && u[2].supernode == 0 && u[2].p2 == 0, "its updates");
     printf("C: %s\n", failed ? "not as expected" : "as expected");
     return failed;
 }

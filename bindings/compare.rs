@@ -4,7 +4,7 @@
 mod cholesky;
 mod nosebagged;
 use cholesky::{FactorError, Symbolic, UpperColumns};
-use nosebagged::{Areas, Matrix, Order, Record, Refusal, Stage, Stop};
+use nosebagged::{Areas, Matrix, Order, Record, Refusal, Stage, Stop, Update};
 
 // splitmix64
 struct Draw(u64);
@@ -200,7 +200,7 @@ fn all_zero(s: &Areas) {
     for l in [&s.permutation, &s.firsts, &s.starts, &s.groups, &s.tasks, &s.top, &s.rows] {
         assert!(l.iter().all(|x| *x == 0), "an area is not zero after a refusal");
     }
-    assert!(s.updates.iter().all(|u| *u == [0; 3]) && s.values.iter().all(|x| x.to_bits() == 0), "an area is not zero after a refusal");
+    assert!(s.updates.iter().all(|u| *u == Update::default()) && s.values.iter().all(|x| x.to_bits() == 0), "an area is not zero after a refusal");
 }
 
 // The record's counts and areas 1 to 6, 9 and 10.
@@ -216,7 +216,7 @@ fn same_structure(r: &Record, s: &Areas, y: &Symbolic) {
     for u in &y.updates {
         groups.push(groups[groups.len() - 1] + u.len());
     }
-    let updates: Vec<[usize; 3]> = y.updates.iter().flatten().map(|u| [u.k, u.p1, u.p2]).collect();
+    let updates: Vec<Update> = y.updates.iter().flatten().map(|u| Update { supernode: u.k, p1: u.p1, p2: u.p2 }).collect();
     let tasks: Vec<usize> = y.tasks.iter().flat_map(|t| [t.start, t.end]).collect();
     let counts = [y.n, ns, y.structure.rows.len(), updates.len(), y.tasks.len(), y.top.len(), y.entries, work];
     assert_eq!(r.0[1..], counts, "record");
@@ -228,7 +228,7 @@ fn same_structure(r: &Record, s: &Areas, y: &Symbolic) {
     holds("top", &s.top, &y.top);
     holds("rows", &s.rows, &y.structure.rows);
     assert_eq!(&s.updates[..updates.len()], &updates[..], "updates");
-    assert!(s.updates[updates.len()..].iter().all(|u| *u == [0; 3]), "updates: not zero after their part");
+    assert!(s.updates[updates.len()..].iter().all(|u| *u == Update::default()), "updates: not zero after their part");
 }
 
 // What was there before the call must not matter.
@@ -236,7 +236,10 @@ fn soil(d: &mut Draw, s: &mut Areas) {
     for l in [&mut s.permutation, &mut s.firsts, &mut s.starts, &mut s.groups, &mut s.tasks, &mut s.top, &mut s.words, &mut s.rows] {
         l.iter_mut().for_each(|x| *x = d.bits() as usize);
     }
-    s.updates.iter_mut().for_each(|u| *u = [d.bits() as usize; 3]);
+    s.updates.iter_mut().for_each(|u| {
+        let x = d.bits() as usize;
+        *u = Update { supernode: x, p1: x, p2: x };
+    });
     s.floats.iter_mut().for_each(|x| *x = 0.0 / 0.0);
     s.values.iter_mut().for_each(|x| *x = 1.5);
 }

@@ -50,6 +50,13 @@ enum {
     NOSEBAGGED_RESULTS   /* how many words: 12 */
 };
 
+/* Supernode `supernode` updates the target that owns its rows at the positions p1 to p2, p2 not among them. */
+struct nosebagged_update {
+    size_t supernode;
+    size_t p1;
+    size_t p2;
+};
+
 /* The stop word that means the end. No count that may stand is as large. */
 #define NOSEBAGGED_END ((size_t)-1)
 
@@ -64,11 +71,11 @@ enum {
  *    7 words         24 n + a + 24  scratch; n for solve
  *    8 floats        a + n        scratch (factor only); n for solve
  *    9 rows          as many as there are: row structures, supernode by supernode
- *   10 updates       as many as there are: three words each (supernode, p1, p2), grouped by target, lower supernode first
+ *   10 updates       as many as there are, grouped by target, lower supernode first
  *   11 values        the entries of L (factor only), supernode by supernode, column by column, diagonal first
  * Needs of 9, 10 and 11 are not known beforehand: a call that is refused with 5 says what the lowest short one needs. */
 
-/* The structure of the factor, if it has at most cap entries. Returns the number. updates_count counts triples. */
+/* The structure of the factor, if it has at most cap entries. Returns the number. */
 size_t nosebagged_analyse(
     size_t n,
     const size_t *input_starts, size_t input_starts_count,
@@ -83,7 +90,7 @@ size_t nosebagged_analyse(
     size_t *top, size_t top_count,
     size_t *words, size_t words_count,
     size_t *rows, size_t rows_count,
-    size_t (*updates)[3], size_t updates_count,
+    struct nosebagged_update *updates, size_t updates_count,
     size_t results[NOSEBAGGED_RESULTS]);
 
 /* Analyses anew and works out the values. order: 0 is the plain order, any other word that of the list, which must then name each
@@ -107,7 +114,7 @@ size_t nosebagged_factor(
     size_t *words, size_t words_count,
     double *floats, size_t floats_count,
     size_t *rows, size_t rows_count,
-    size_t (*updates)[3], size_t updates_count,
+    struct nosebagged_update *updates, size_t updates_count,
     double *values, size_t values_count,
     size_t results[NOSEBAGGED_RESULTS]);
 

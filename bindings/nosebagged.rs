@@ -21,7 +21,7 @@ mod raw {
             top: *mut usize, top_count: usize,
             words: *mut usize, words_count: usize,
             rows: *mut usize, rows_count: usize,
-            updates: *mut [usize; 3], updates_count: usize,
+            updates: *mut super::Update, updates_count: usize,
             results: *mut [usize; 12],
         ) -> usize;
         pub fn nosebagged_factor(
@@ -42,7 +42,7 @@ mod raw {
             words: *mut usize, words_count: usize,
             floats: *mut f64, floats_count: usize,
             rows: *mut usize, rows_count: usize,
-            updates: *mut [usize; 3], updates_count: usize,
+            updates: *mut super::Update, updates_count: usize,
             values: *mut f64, values_count: usize,
             results: *mut [usize; 12],
         ) -> usize;
@@ -181,6 +181,15 @@ impl Record {
     pub fn work(&self) -> usize { self.0[8] }
 }
 
+/// Supernode `supernode` updates the target that owns its rows at the positions p1..p2.
+#[repr(C)]
+#[derive(Clone, Copy, Debug, Default, PartialEq)]
+pub struct Update {
+    pub supernode: usize,
+    pub p1: usize,
+    pub p2: usize,
+}
+
 /// The lent areas 1 to 11, owned here.
 #[derive(Clone, Default)]
 pub struct Areas {
@@ -193,7 +202,7 @@ pub struct Areas {
     pub words: Vec<usize>,
     pub floats: Vec<f64>,
     pub rows: Vec<usize>,
-    pub updates: Vec<[usize; 3]>,
+    pub updates: Vec<Update>,
     pub values: Vec<f64>,
 }
 
@@ -216,7 +225,7 @@ impl Areas {
     /// Areas 9 to 11 as long as this record needs.
     pub fn with_room(mut self, rows: usize, updates: usize, entries: usize) -> Areas {
         self.rows = vec![0; rows];
-        self.updates = vec![[0; 3]; updates];
+        self.updates = vec![Update::default(); updates];
         self.values = vec![0.0; entries];
         self
     }
@@ -242,7 +251,7 @@ impl Areas {
             7 => to(&mut self.words, need, 0),
             8 => to(&mut self.floats, need, 0.0),
             9 => to(&mut self.rows, need, 0),
-            10 => to(&mut self.updates, need, [0; 3]),
+            10 => to(&mut self.updates, need, Update::default()),
             11 => to(&mut self.values, need, 0.0),
             _ => false,
         }
