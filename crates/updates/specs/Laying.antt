@@ -35,10 +35,14 @@ spotted n j i a b words =
     let at : ℕ = updatesAt n + 3 * i in
     set (set (set (set words (placesAt n + j) (place + 1)) at place) (at + 1) a) (at + 2) b
 
--- us with the first c updates that the spots say of source k
+-- the update that spot i says of source k
+abbrev pub said : ℕ → List ℕ → ℕ → Update
+said k spots i = record { supernode = k; p1 = getD spots (3 * i + 1) 0; p2 = getD spots (3 * i + 2) 0 }
+
+-- us with the first c of them
 unfoldable pub written : ℕ → ℕ → List ℕ → List Update → List Update
 written k zero spots us = us
-written k (suc i) spots us = set (written k i spots us) (getD spots (3 * i) 0) (record { supernode = k; p1 = getD spots (3 * i + 1) 0; p2 = getD spots (3 * i + 2) 0 })
+written k (suc i) spots us = set (written k i spots us) (getD spots (3 * i) 0) (said k spots i)
 
 -- the updates by the sources below k are laid; next is where each target's go on
 pub record ToScan (n ns : ℕ) (input-starts input-rows firsts starts nine : List ℕ) (k : ℕ) (words : List ℕ) : Type 0 where
