@@ -1,4 +1,3 @@
 pub mod Turns
 pub mod States
-pub mod Runs
 pub mod Whole
