@@ -35,7 +35,7 @@ use Rattle.order.proofs.Shaped.{shape-above, shape-of}
 use Rattle.ready.specs.Known.{Known, Laid, Kept}
 use Rattle.ready.proofs.Wrote.{Wrote, wrote, wrote-part, wrote-above}
 use Rattle.ready.proofs.Laying.{fewer, room}
-use Rattle.begin.specs.Ordered.{orderTest, Prepared}
+use Rattle.begin.specs.Ordered.{orderTest, Tested}
 
 answered-none : (f : Option ℕ) → answered (wrongPosition f) ≡ Accepted → wrongPosition f ≡ none
 unfolding wrongPosition answered
@@ -72,14 +72,17 @@ module _ (M : Matrix) {ns : ℕ} {permutation firsts starts tasks : List ℕ} (k
   pub of : Of (shapeFor M) lentParents ns
   of = rw (tail-lent (M .n) tasks, k .number) (shape-of (factored (pattern M) (M .n)) (M .n) (up M (k .well)) (drop (M .n) tasks) (k .tasksRest) past)
 
-  -- ---- a legal order
+  -- the order that passes number 8
+  pub ordered-by : (o : Order) (l : List ℕ) (e : Stop) → orderTest M o l e ≡ none → Names (shapeFor M) (orderOf (shapeFor M) o l) × (stopOf (shapeFor M) e ≤ supernodes (shapeFor M))
+  unfolding orderTest analysis
+  ordered-by o l e legal = order-exactly (shapeFor M) (ok M (k .well) .up) (orderOf (shapeFor M) o l) (stopOf (shapeFor M) e) .0 (no-position _ legal)
 
   module _ (o : Order) (l : List ℕ) (e : Stop) (a : Answer) (q : a ≡ answered (wrongPosition (orderFault (shapeFor M) (orderOf (shapeFor M) o l) (stopOf (shapeFor M) e)))) where
     said : a ≡ answered (orderTest M o l e)
     unfolding orderTest analysis
     said = q
 
-    pub refused-order : {words words′ : List ℕ} {floats : List Float} → a ≢ Accepted → Prepared M o l e ns a words words′ floats
+    pub refused-order : {words words′ : List ℕ} {floats : List Float} → a ≢ Accepted → Tested M o l e ns a words words′ floats
     refused-order h = record { ans = said; go = λ z. absurd (h z) }
 
     module _ (h : a ≡ Accepted) where
@@ -88,8 +91,7 @@ module _ (M : Matrix) {ns : ℕ} {permutation firsts starts tasks : List ℕ} (k
       legal = answered-none _ (sym q ∙ h)
 
       ordered : Names (shapeFor M) (orderOf (shapeFor M) o l) × (stopOf (shapeFor M) e ≤ supernodes (shapeFor M))
-      unfolding orderTest analysis
-      ordered = order-exactly (shapeFor M) (ok M (k .well) .up) (orderOf (shapeFor M) o l) (stopOf (shapeFor M) e) .0 (no-position _ legal)
+      ordered = ordered-by o l e legal
 
       long-list : o ≡ Listed → stopOf (shapeFor M) e ≤ length l
       unfolding orderOf
@@ -133,7 +135,7 @@ module _ (M : Matrix) {ns : ℕ} {permutation firsts starts tasks : List ℕ} (k
             lower = rw (after (startsAt (M .n)) (omega arith), after (rowsAt (M .n)) (omega arith)) (z .lower);
           }
 
-          pub prepared : Prepared M o l e ns a w w₃ floats
+          pub prepared : Tested M o l e ns a w w₃ floats
           prepared = record {
             ans = said;
             go = λ _. (

@@ -28,6 +28,6 @@ pub record Ordered (M : Matrix) (o : Order) (l : List ℕ) (e : Stop) (ns : ℕ)
   pub names : (p : ℕ) → p < stopOf (shapeFor M) e → getD words (namesAt (M .n) + p) 0 ≡ getD (orderOf (shapeFor M) o l) p 0
 
 -- by the answer, over the words before; what laying the updates reads is kept
-pub record Prepared (M : Matrix) (o : Order) (l : List ℕ) (e : Stop) (ns : ℕ) (answer : Answer) (words words′ : List ℕ) (floats : List Float) : Type 0 where
+pub record Tested (M : Matrix) (o : Order) (l : List ℕ) (e : Stop) (ns : ℕ) (answer : Answer) (words words′ : List ℕ) (floats : List Float) : Type 0 where
   pub ans : answer ≡ answered (orderTest M o l e)
   pub go : answer ≡ Accepted → Ordered M o l e ns words′ floats × Kept (M .n) words words′

@@ -8,14 +8,19 @@ ghost use Rattle.statement.specs.Input.{matrix};
 ghost use Rattle.statement.specs.Shape.{Shape, supernodes};
 ghost use Rattle.statement.specs.Calls.{orderOf};
 ghost use Rattle.ready.specs.Known.{Known};
-ghost use Rattle.begin.specs.Ordered.{Prepared};
+ghost use Rattle.begin.specs.Begun.{lentAll, Begun, Steps};
+ghost use Rattle.begin.specs.Ordered.{Tested};
 use areas::copy_part;
+use clearing::clear_all;
 use order::order_fault;
 use order::stop_at;
 use ready::ready;
 use statement::Answer;
 use statement::Order;
 use statement::Stop;
+use survey::Findings;
+use survey::refused;
+use survey::survey;
 
 // The first t words become 0, 1, ..
 fn count_up(t: usize, to: &mut [usize])
@@ -60,7 +65,7 @@ fn prepare(
 ) -> Answer
     requires { ⌜ Known (matrix n (now «input_starts») (now «input_rows») (now «input_values»)) ns (now permutation) (now firsts) (now starts) (now tasks) ⌝ }
     requires { ⌜ (n ≤ length (now top)) × (24 * n + length (now «input_rows») + 24 ≤ length (now words)) × (length (now «input_rows») + n ≤ length (now floats)) ⌝ }
-    ensures { λ r. ⌜ Prepared (matrix n (now («input_starts» .entry)) (now («input_rows» .entry)) (now («input_values» .entry))) order (now (list .entry)) stop ns r (now (words .entry)) (now (words .exit)) (now (floats .exit)) ⌝ }
+    ensures { λ r. ⌜ Tested (matrix n (now («input_starts» .entry)) (now («input_rows» .entry)) (now («input_values» .entry))) order (now (list .entry)) stop ns r (now (words .entry)) (now (words .exit)) (now (floats .exit)) ⌝ }
 {
     let m = n + 1;
     let b = order_fault(ns, order, list, stop, &tasks[n..], &mut words[..m]);
@@ -84,4 +89,103 @@ fn prepare(
     let at = 8 * n + 1;
     names(order, list, stop_at(ns, stop), &mut words[at..]);
     b
+}
+
+// The structure over areas that it clears, number 8, and what the run reads; long is area 10's length. Where it is refused, what it
+// leaves in the areas is not said.
+pub fn begin(
+    n: usize,
+    input_starts: &[usize],
+    input_rows: &[usize],
+    input_values: &[f64],
+    cap: usize,
+    order: Order,
+    list: &[usize],
+    stop: Stop,
+    long: usize,
+    permutation: &mut [usize],
+    firsts: &mut [usize],
+    starts: &mut [usize],
+    groups: &mut [usize],
+    tasks: &mut [usize],
+    top: &mut [usize],
+    words: &mut [usize],
+    floats: &mut [f64],
+    rows: &mut [usize],
+    values: &mut [f64],
+) -> Findings
+    ensures { λ x. ⌜ Begun (matrix n (now («input_starts» .entry)) (now («input_rows» .entry)) (now («input_values» .entry))) cap order (now (list .entry)) stop (lentAll (length (now (permutation .entry))) (length (now (firsts .entry))) (length (now (starts .entry))) (length (now (groups .entry))) (length (now (tasks .entry))) (length (now (top .entry))) (length (now (words .entry))) (length (now (floats .entry))) (length (now (rows .entry))) long (length (now (values .entry)))) x (now (permutation .exit)) (now (firsts .exit)) (now (starts .exit)) (now (groups .exit)) (now (tasks .exit)) (now (words .exit)) (now (floats .exit)) (now (rows .exit)) (now (values .exit)) ⌝ }
+{
+    let room = clear_all(
+        permutation,
+        firsts,
+        starts,
+        groups,
+        tasks,
+        top,
+        words,
+        floats,
+        rows,
+        values,
+        long,
+    );
+    let x = survey(
+        n,
+        input_starts,
+        input_rows,
+        input_values,
+        cap,
+        room,
+        permutation,
+        firsts,
+        starts,
+        groups,
+        tasks,
+        top,
+        words,
+        rows,
+    );
+    let a = x.answer;
+    let Answer::Accepted = a else {
+        return x;
+    };
+    let b = prepare(
+        n,
+        x.supernodes,
+        input_starts,
+        input_rows,
+        input_values,
+        order,
+        list,
+        stop,
+        permutation,
+        firsts,
+        starts,
+        tasks,
+        top,
+        words,
+        floats,
+    );
+    let Answer::Accepted = b else {
+        return refused(b);
+    };
+    x
+}
+
+// How many supernodes are run: none where it is refused.
+pub fn steps(x: Findings, stop: Stop) -> usize
+    ensures { λ r. ⌜ Steps x stop r ⌝ }
+{
+    let a = x.answer;
+    let Answer::Accepted = a else {
+        return 0;
+    };
+    stop_at(x.supernodes, stop)
+}
+
+// How many values the factor has.
+pub fn entries(x: Findings) -> usize
+    ensures { λ r. ⌜ r ≡ x .entries ⌝ }
+{
+    x.entries
 }
