@@ -14,7 +14,7 @@ use Rattle.survey.specs.declared.Findings.{Findings}
 use Rattle.survey.proofs.Surveying.{long}
 use Rattle.survey.proofs.Reading.{held-is, fewer, enough-words, parents-past}
 
-module _ {M : Matrix} {cap : ℕ} {r : Room} {s : Findings} {permutation firsts starts groups tasks nine : List ℕ} {ten : List (List ℕ)} (l : Laid M cap r s permutation firsts starts groups tasks nine ten) where
+module _ {M : Matrix} {cap : ℕ} {r : Room} {s : Findings} {permutation firsts starts groups tasks words nine : List ℕ} (l : Laid M cap r s permutation firsts starts groups tasks words nine) where
   all : (Sized (s .supernodes) firsts starts × Above (s .supernodes) (drop (M .n) tasks)) × Given (shapeFor M) (s .supernodes) firsts starts (drop (M .n) tasks)
   all = asked M (l .well) (s .supernodes) (l .many-supernodes) firsts _ starts _ (drop (M .n) tasks) (l .rest) (held-is (r .firsts) (shapeFor M .firsts) (l .two)) (held-is (r .starts) (shapeFor M .starts) (l .three)) (parents-past l)
 

@@ -1,38 +1,18 @@
--- What any call says: updates as three words, and a refusal. Assumes nothing.
-use mathlib.Core.Path.{_≡_, refl, sym, ap, _∙_}
+-- What any call says of a refusal. Assumes nothing.
+use mathlib.Core.Path.{_≡_, refl, _∙_}
 use mathlib.Core.Logic.{_≢_}
-use mathlib.Core.List.{List, [], _∷_, _++_, map}
 use mathlib.Core.Option.{Option, none, some}
-use Prim.Native.Nat.{ℕ, zero, suc, _-_}
-use lib.ListN.{length, replicate, length-map}
+use Prim.Native.Nat.{ℕ}
 use Rattle.statement.specs.Answers.{answered}
 use Rattle.statement.specs.Record.{emptyRecord}
-use Rattle.statement.specs.Areas.{Areas, held, noUpdate}
+use Rattle.statement.specs.Areas.{Areas}
 use Rattle.statement.specs.Calls.{settled, cleared}
 use Rattle.statement.specs.declared.Answer.{Answer}
-use Rattle.statement.specs.declared.Answer.the-variants.{Accepted}
+use Rattle.statement.specs.declared.Answer.the-variants.{Accepted, OverLimit, WrongLengths, WrongStarts, WrongColumn, ShortArea, OverCap, WrongOrder, WrongPivot, WrongSide, NoFactor, WrongStructure, WrongFrame}
 use Rattle.statement.specs.declared.Outcome.{Outcome}
 use Rattle.statement.specs.declared.Record.{Record}
 use Rattle.statement.specs.declared.Room.{Room}
-use Rattle.statement.specs.declared.Update.{Update}
-use Rattle.updates.specs.Scan.{triple}
-use Rattle.clearing.specs.Zeroed.{noTriple}
-
--- ---- updates as three words
-
-pub map-replicate : (m : ℕ) (u : Update) → map triple (replicate m u) ≡ replicate m (triple u)
-map-replicate zero u = refl
-map-replicate (suc m) u = ap (λ l. triple u ∷ l) (map-replicate m u)
-
-map-append : (a b : List Update) → map triple (a ++ b) ≡ map triple a ++ map triple b
-map-append [] b = refl
-map-append (x ∷ a) b = ap (λ l. triple x ∷ l) (map-append a b)
-
-pub map-held : (m : ℕ) (l : List Update) → held m noTriple (map triple l) ≡ map triple (held m noUpdate l)
-unfolding held
-map-held m l = sym (map-append l (replicate (m - length l) noUpdate) ∙ ap (λ x. map triple l ++ x) (map-replicate (m - length l) noUpdate ∙ ap (λ k. replicate (m - k) noTriple) (sym (length-map l triple))))
-
--- ---- a refusal
+use Rattle.survey.specs.Settles.{staleOf}
 
 -- what is returned with a
 pub refused-out : (r : Room) (f : Option Answer) (R : Record) (X : Areas) (x : Outcome) (a : Answer) → x .answer ≡ a → x .«record» ≡ emptyRecord → a ≢ Accepted → a ≡ answered f → x ≡ settled r f R X .returned
@@ -45,3 +25,23 @@ pub refused-areas : (r : Room) (f : Option Answer) (R : Record) (X : Areas) → 
 unfolding settled
 refused-areas r none R X h = absurd (h refl)
 refused-areas r (some a) R X h = refl
+
+-- ---- how many updates are cleared
+
+pub stale-accepted : (a : Answer) (long : ℕ) → a ≡ Accepted → 0 ≡ staleOf a long
+stale-accepted a long e = rw e
+
+pub stale-refused : (a : Answer) (long : ℕ) → a ≢ Accepted → long ≡ staleOf a long
+stale-refused Accepted long ne = absurd (ne refl)
+stale-refused OverLimit long ne = refl
+stale-refused (WrongLengths which) long ne = refl
+stale-refused (WrongStarts position) long ne = refl
+stale-refused (WrongColumn k) long ne = refl
+stale-refused (ShortArea area need) long ne = refl
+stale-refused (OverCap entries cap) long ne = refl
+stale-refused (WrongOrder position) long ne = refl
+stale-refused (WrongPivot k) long ne = refl
+stale-refused (WrongSide length) long ne = refl
+stale-refused NoFactor long ne = refl
+stale-refused WrongStructure long ne = refl
+stale-refused (WrongFrame line) long ne = refl
