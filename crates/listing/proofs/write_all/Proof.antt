@@ -46,11 +46,10 @@ use sound.Loop.{loop-rule}
 use sound.WpLaws.{FmC, WpFn-mono, fmOf}
 use types.Kit.{ !, Given, Item, _$_, _∵_, _⊛_, anyQ, atRet, await as w-await, by as w-by, done, drop as w-drop, feqI as w-feqI, feqL as w-feqL, fjoin as w-fjoin, frame as w-frame, fsplit as w-fsplit, join as w-join, keep as w-keep, later, move as w-move, pick as w-pick, qed, raw, rewrite as w-rewrite, some, split as w-split, suffices as w-suffices, use1, use2, use3, ‵, ⋆}
 use types.Part.{agg as w-agg, look-in as w-look-in, sub as w-sub, whole as w-whole}
-use types.Run.{addr as w-addr, alloc0 as w-alloc0, alloc1 as w-alloc1, and-then as w-and-then, assigns as w-assigns, assigns-last as w-assigns-last, bin as w-bin, enter as w-enter, exec as w-exec, fld as w-fld, forget as w-forget, free0 as w-free0, free1 as w-free1, from as w-from, hop as w-hop, init as w-init, land as w-land, leaves-loop as w-leaves-loop, lit as w-lit, load as w-load, look as w-look, no-more as w-no-more, of-opd as w-of-opd, params1 as w-params1, pass0 as w-pass0, pass1 as w-pass1, returns as w-returns, stays as w-stays, stop as w-stop, store as w-store, unit-lit as w-unit-lit}
+use types.Run.{addr as w-addr, alloc0 as w-alloc0, alloc1 as w-alloc1, and-then as w-and-then, assigns as w-assigns, assigns-last as w-assigns-last, bin as w-bin, enter as w-enter, exec as w-exec, fld as w-fld, forget as w-forget, from as w-from, hop as w-hop, init as w-init, land as w-land, leaves-loop as w-leaves-loop, lit as w-lit, load as w-load, look as w-look, no-more as w-no-more, of-opd as w-of-opd, params1 as w-params1, pass0 as w-pass0, pass1 as w-pass1, returns as w-returns, stays as w-stays, stop as w-stop, store as w-store, unit-lit as w-unit-lit}
 use types.Tokens.{lft-end as w-lft-end, lft-new as w-lft-new}
 use Rattle.statement.specs.declared.Update.{Update}
 use Rattle.statement.proofs.Update as T-Update
-use Rattle.statement.proofs.Update.Laws as L-Update
 use Rattle.updates.proofs.scan_one as f-scan-one
 use Rattle.updates.proofs.scan_one.Symbol as def-scan-one
 use Rattle.updates.proofs.scan_one.Symbol.{name as #updates·scan-one}
@@ -59,6 +58,7 @@ use Rattle.listing.proofs.write_one as f-write-one
 use Rattle.listing.proofs.write_one.Symbol as def-write-one
 use Rattle.listing.proofs.write_one.Symbol.{name as #listing·write-one}
 use Rattle.listing.proofs.write_one.Met as thm-write-one
+use Rattle.update.proofs.Packs.{Packed, pack as w-pack, unpack as w-unpack, homes-freed as w-homes-freed}
 use Rattle.update.proofs.Again.{LentAgain, lends-again, comes-back}
 use Rattle.update.proofs.Shared.{LentShared, lends-shared, shared-back}
 use Rattle.listing.proofs.write_all.Key.{name as #listing·write-all}
@@ -226,9 +226,12 @@ module _ {M : Type 1} (𝓤 : URA M) (H : Heap 𝓤) (A : Atoms 𝓤) (W : Given
       abbrev En : Env 𝓤 H
       En = (ty0, l0) ∷ (ty1, l1) ∷ (ty2, l2) ∷ (ty3, l3) ∷ (ty4, l4) ∷ (ty5, l5) ∷ (ty6, l6) ∷ (ty7, l7) ∷ (ty8, l8) ∷ (ty9, l9) ∷ (ty10, l10) ∷ (ty11, l11) ∷ (ty12, l12) ∷ (ty13, l13) ∷ (ty14, l14) ∷ (ty15, l15) ∷ (ty16, l16) ∷ (ty17, l17) ∷ (ty18, l18) ∷ (ty19, l19) ∷ []
 
+      abbrev dying : List (Item 𝓤)
+      dying = ‵ (fdies ty0 l0) ∷ ‵ (fdies ty1 l1) ∷ ‵ (fdies ty2 l2) ∷ ‵ (fdies ty3 l3) ∷ ‵ (fdies ty4 l4) ∷ ‵ (fdies ty5 l5) ∷ ‵ (fdies ty6 l6) ∷ ‵ (fdies ty7 l7) ∷ ‵ (fdies ty8 l8) ∷ ‵ (fdies ty9 l9) ∷ ‵ (fdies ty10 l10) ∷ ‵ (fdies ty11 l11) ∷ ‵ (fdies ty12 l12) ∷ ‵ (fdies ty13 l13) ∷ ‵ (fdies ty14 l14) ∷ ‵ (fdies ty15 l15) ∷ ‵ (fdies ty16 l16) ∷ ‵ (fdies ty17 l17) ∷ ‵ (fdies ty18 l18) ∷ ‵ (fdies ty19 l19) ∷ []
+
       -- the context where i turns are done
       abbrev At : (i : ℕ) (v-words : List ℕ) (v-us : List Update) → List (Item 𝓤)
-      At i v-words v-us = ‵ (ShrSlice (named 0) κ-input-starts usize .own (ref-input-starts γ-input-starts input-starts) (sliceVal (b-input-starts, o-input-starts) (length input-starts) ∷ [])) ∷ ‵ (ShrSlice (named 1) κ-input-rows usize .own (ref-input-rows γ-input-rows input-rows) (sliceVal (b-input-rows, o-input-rows) (length input-rows) ∷ [])) ∷ ‵ (ShrSlice (named 2) κ-firsts usize .own (ref-firsts γ-firsts firsts) (sliceVal (b-firsts, o-firsts) (length firsts) ∷ [])) ∷ ‵ (ShrSlice (named 3) κ-starts usize .own (ref-starts γ-starts starts) (sliceVal (b-starts, o-starts) (length starts) ∷ [])) ∷ ‵ (ShrSlice (named 4) κ-rows usize .own (ref-rows γ-rows rows) (sliceVal (b-rows, o-rows) (length rows) ∷ [])) ∷ ‵ (MutSlice (named 5) κ-words usize .own (ref-words γ-words v-words) (sliceVal (b-words, o-words) (length words) ∷ [])) ∷ ‵ (MutSlice (named 6) κ-us T-Update.the-row .own (ref-us γ-us v-us) (sliceVal (b-us, o-us) (length us) ∷ [])) ∷ ‵ (flft κ-input-starts q-input-starts) ∷ ‵ (flft κ-input-rows q-input-rows) ∷ ‵ (flft κ-firsts q-firsts) ∷ ‵ (flft κ-starts q-starts) ∷ ‵ (flft κ-rows q-rows) ∷ ‵ (flft κ-words q-words) ∷ ‵ (flft κ-us q-us) ∷ ‵ (froom ty0 l0 0) ∷ ‵ (fat fullShare ty1 l1 0 (vint w64 ns)) ∷ ‵ (fat fullShare ty2 l2 0 (vint w64 n)) ∷ ‵ (fat fullShare ty3 l3 0 s-input-starts) ∷ ‵ (fat fullShare ty4 l4 0 s-input-rows) ∷ ‵ (fat fullShare ty5 l5 0 s-firsts) ∷ ‵ (fat fullShare ty6 l6 0 s-starts) ∷ ‵ (fat fullShare ty7 l7 0 s-rows) ∷ ‵ (fat fullShare ty8 l8 0 s-words) ∷ ‵ (fat fullShare ty9 l9 0 s-us) ∷ ‵ (fat fullShare ty10 l10 0 (vint w64 i)) ∷ ‵ (froom ty11 l11 0) ∷ ‵ (froom ty12 l12 0) ∷ ‵ (froom ty13 l13 0) ∷ ‵ (froom ty14 l14 0) ∷ ‵ (froom ty15 l15 0) ∷ ‵ (froom ty16 l16 0) ∷ ‵ (froom ty17 l17 0) ∷ ‵ (froom ty18 l18 0) ∷ ‵ (froom ty19 l19 0) ∷ ‵ (fdies ty0 l0) ∷ ‵ (fdies ty1 l1) ∷ ‵ (fdies ty2 l2) ∷ ‵ (fdies ty3 l3) ∷ ‵ (fdies ty4 l4) ∷ ‵ (fdies ty5 l5) ∷ ‵ (fdies ty6 l6) ∷ ‵ (fdies ty7 l7) ∷ ‵ (fdies ty8 l8) ∷ ‵ (fdies ty9 l9) ∷ ‵ (fdies ty10 l10) ∷ ‵ (fdies ty11 l11) ∷ ‵ (fdies ty12 l12) ∷ ‵ (fdies ty13 l13) ∷ ‵ (fdies ty14 l14) ∷ ‵ (fdies ty15 l15) ∷ ‵ (fdies ty16 l16) ∷ ‵ (fdies ty17 l17) ∷ ‵ (fdies ty18 l18) ∷ ‵ (fdies ty19 l19) ∷ []
+      At i v-words v-us = ‵ (ShrSlice (named 0) κ-input-starts usize .own (ref-input-starts γ-input-starts input-starts) (sliceVal (b-input-starts, o-input-starts) (length input-starts) ∷ [])) ∷ ‵ (ShrSlice (named 1) κ-input-rows usize .own (ref-input-rows γ-input-rows input-rows) (sliceVal (b-input-rows, o-input-rows) (length input-rows) ∷ [])) ∷ ‵ (ShrSlice (named 2) κ-firsts usize .own (ref-firsts γ-firsts firsts) (sliceVal (b-firsts, o-firsts) (length firsts) ∷ [])) ∷ ‵ (ShrSlice (named 3) κ-starts usize .own (ref-starts γ-starts starts) (sliceVal (b-starts, o-starts) (length starts) ∷ [])) ∷ ‵ (ShrSlice (named 4) κ-rows usize .own (ref-rows γ-rows rows) (sliceVal (b-rows, o-rows) (length rows) ∷ [])) ∷ ‵ (MutSlice (named 5) κ-words usize .own (ref-words γ-words v-words) (sliceVal (b-words, o-words) (length words) ∷ [])) ∷ ‵ (MutSlice (named 6) κ-us T-Update.the-row .own (ref-us γ-us v-us) (sliceVal (b-us, o-us) (length us) ∷ [])) ∷ ‵ (flft κ-input-starts q-input-starts) ∷ ‵ (flft κ-input-rows q-input-rows) ∷ ‵ (flft κ-firsts q-firsts) ∷ ‵ (flft κ-starts q-starts) ∷ ‵ (flft κ-rows q-rows) ∷ ‵ (flft κ-words q-words) ∷ ‵ (flft κ-us q-us) ∷ ‵ (froom ty0 l0 0) ∷ ‵ (fat fullShare ty1 l1 0 (vint w64 ns)) ∷ ‵ (fat fullShare ty2 l2 0 (vint w64 n)) ∷ ‵ (fat fullShare ty3 l3 0 s-input-starts) ∷ ‵ (fat fullShare ty4 l4 0 s-input-rows) ∷ ‵ (fat fullShare ty5 l5 0 s-firsts) ∷ ‵ (fat fullShare ty6 l6 0 s-starts) ∷ ‵ (fat fullShare ty7 l7 0 s-rows) ∷ ‵ (fat fullShare ty8 l8 0 s-words) ∷ ‵ (fat fullShare ty9 l9 0 s-us) ∷ ‵ (fat fullShare ty10 l10 0 (vint w64 i)) ∷ ‵ (froom ty11 l11 0) ∷ ‵ (froom ty12 l12 0) ∷ ‵ (froom ty13 l13 0) ∷ ‵ (froom ty14 l14 0) ∷ ‵ (froom ty15 l15 0) ∷ ‵ (froom ty16 l16 0) ∷ ‵ (froom ty17 l17 0) ∷ ‵ (froom ty18 l18 0) ∷ ‵ (froom ty19 l19 0) ∷ raw (Packed 𝓤 H A dying) ∷ []
 
       -- the invariant, where t turns are left
       abbrev Inv : ℕ → SProp 𝓤
@@ -261,7 +264,7 @@ module _ {M : Type 1} (𝓤 : URA M) (H : Heap 𝓤) (A : Atoms 𝓤) (W : Given
           w-nothing ! $ w-move ! (3 ∷ 0 ∷ []) $ w-join ! $ w-move ! (13 ∷ 0 ∷ []) $ w-join ! $ w-move ! (12 ∷ 0 ∷ []) $ w-join ! $ w-move ! (11 ∷ 0 ∷ []) $ w-join ! $ w-move ! (10 ∷ 0 ∷ []) $ w-join ! $ w-move ! (9 ∷ 0 ∷ []) $ w-join ! $
           use2 W (raw (C-scan-one 𝓤 H A mem run .pre (((κ-input-starts, (κ-input-rows, (κ-firsts, (κ-starts, (κ-rows, (ν1-8 ∷ [], tt)))))), (q-input-starts, (q-input-rows, (q-firsts, (q-starts, (q-rows, (fullShare, tt)))))), tt, (n, (ns, (ref-input-starts γ-input-starts input-starts, (ref-input-rows γ-input-rows input-rows, (ref-firsts γ-firsts firsts, (ref-starts γ-starts starts, (ref-rows γ-rows rows, (i, (ref-words δ1-8 v-words, tt))))))))), (vint w64 n ∷ [], (vint w64 ns ∷ [], (sliceVal (b-input-starts, o-input-starts) (length input-starts) ∷ [], (sliceVal (b-input-rows, o-input-rows) (length input-rows) ∷ [], (sliceVal (b-firsts, o-firsts) (length firsts) ∷ [], (sliceVal (b-starts, o-starts) (length starts) ∷ [], (sliceVal (b-rows, o-rows) (length rows) ∷ [], (vint w64 i ∷ [], (sliceVal (b-words, o-words) (length v-words) ∷ [], tt)))))))))), tt))) (asked1 i v-words v-us len-words len-us kept small ν1-8 δ1-8) $
           w-calls-at ! fm (C-scan-one 𝓤 H A mem run) known-scan-one (((κ-input-starts, (κ-input-rows, (κ-firsts, (κ-starts, (κ-rows, (ν1-8 ∷ [], tt)))))), (q-input-starts, (q-input-rows, (q-firsts, (q-starts, (q-rows, (fullShare, tt)))))), tt, (n, (ns, (ref-input-starts γ-input-starts input-starts, (ref-input-rows γ-input-rows input-rows, (ref-firsts γ-firsts firsts, (ref-starts γ-starts starts, (ref-rows γ-rows rows, (i, (ref-words δ1-8 v-words, tt))))))))), (vint w64 n ∷ [], (vint w64 ns ∷ [], (sliceVal (b-input-starts, o-input-starts) (length input-starts) ∷ [], (sliceVal (b-input-rows, o-input-rows) (length input-rows) ∷ [], (sliceVal (b-firsts, o-firsts) (length firsts) ∷ [], (sliceVal (b-starts, o-starts) (length starts) ∷ [], (sliceVal (b-rows, o-rows) (length rows) ∷ [], (vint w64 i ∷ [], (sliceVal (b-words, o-words) (length v-words) ∷ [], tt)))))))))), tt) (w-and-then ! (w-load ! (w-from ! (w-stop !)) (w-look ! 11 refl)) (w-and-then ! (w-load ! (w-from ! (w-stop !)) (w-look ! 10 refl)) (w-and-then ! (w-load ! (w-from ! (w-stop !)) (w-look ! 12 refl)) (w-and-then ! (w-load ! (w-from ! (w-stop !)) (w-look ! 13 refl)) (w-and-then ! (w-load ! (w-from ! (w-stop !)) (w-look ! 14 refl)) (w-and-then ! (w-load ! (w-from ! (w-stop !)) (w-look ! 15 refl)) (w-and-then ! (w-load ! (w-from ! (w-stop !)) (w-look ! 16 refl)) (w-and-then ! (w-load ! (w-from ! (w-stop !)) (w-look ! 19 refl)) (w-and-then ! (w-load ! (w-from ! (w-stop !)) (w-look ! 23 refl)) (w-no-more !)))))))))) (λ r1.
-          use1 W (later (some (λ (u : ℕ). ((‵ (flft (κ-input-starts) q-input-starts) ⊛ ‵ (flft (κ-input-rows) q-input-rows) ⊛ ‵ (flft (κ-firsts) q-firsts) ⊛ ‵ (flft (κ-starts) q-starts) ⊛ ‵ (flft (κ-rows) q-rows) ⊛ ‵ (flft (ν1-8 ∷ []) fullShare) ⊛ ‵ ftrue) ⊛ ‵ (usize .own u (r1 ∷ []))) ⊛ raw (ensured 𝓤 H A f-scan-one.ended (f-scan-one.clauses 𝓤 H A mem run) (κ-input-starts, (κ-input-rows, (κ-firsts, (κ-starts, (κ-rows, (ν1-8 ∷ [], tt)))))) (n, (ns, (ref-input-starts γ-input-starts input-starts, (ref-input-rows γ-input-rows input-rows, (ref-firsts γ-firsts firsts, (ref-starts γ-starts starts, (ref-rows γ-rows rows, (i, (ref-words δ1-8 v-words, tt))))))))) tt u)))) (id⊢ 𝓤 _) $ w-await ! tt $ w-pick ! (λ u1.
+          use1 W (later (some (λ (u′ : ℕ). ((‵ (flft (κ-input-starts) q-input-starts) ⊛ ‵ (flft (κ-input-rows) q-input-rows) ⊛ ‵ (flft (κ-firsts) q-firsts) ⊛ ‵ (flft (κ-starts) q-starts) ⊛ ‵ (flft (κ-rows) q-rows) ⊛ ‵ (flft (ν1-8 ∷ []) fullShare) ⊛ ‵ ftrue) ⊛ ‵ (usize .own u′ (r1 ∷ []))) ⊛ raw (ensured 𝓤 H A f-scan-one.ended (f-scan-one.clauses 𝓤 H A mem run) (κ-input-starts, (κ-input-rows, (κ-firsts, (κ-starts, (κ-rows, (ν1-8 ∷ [], tt)))))) (n, (ns, (ref-input-starts γ-input-starts input-starts, (ref-input-rows γ-input-rows input-rows, (ref-firsts γ-firsts firsts, (ref-starts γ-starts starts, (ref-rows γ-rows rows, (i, (ref-words δ1-8 v-words, tt))))))))) tt u′)))) (id⊢ 𝓤 _) $ w-await ! tt $ w-pick ! (λ u1.
           w-split ! $ w-move ! (1 ∷ []) $ use1 W (some (λ (zs1 : Unit {0} × (Unit {0} × (Unit {0} × (Unit {0} × (Unit {0} × (Unit {0} × (Unit {0} × (Unit {0} × (List ℕ × Unit {0}))))))))). ‵ (lasts f-scan-one.ended (κ-input-starts, (κ-input-rows, (κ-firsts, (κ-starts, (κ-rows, (ν1-8 ∷ [], tt)))))) (n, (ns, (ref-input-starts γ-input-starts input-starts, (ref-input-rows γ-input-rows input-rows, (ref-firsts γ-firsts firsts, (ref-starts γ-starts starts, (ref-rows γ-rows rows, (i, (ref-words δ1-8 v-words, tt))))))))) zs1) ⊛ raw (fact 𝓤 (Scanned (shaped n (input-starts) (input-rows)) n i (v-words) ((zs1 .1 .1 .1 .1 .1 .1 .1 .1 .0)) u1)))) (id⊢ 𝓤 _) $ w-pick ! (λ zs1. w-split ! $ w-move ! (1 ∷ []) $ w-heard ! (Scanned (shaped n (input-starts) (input-rows)) n i (v-words) ((zs1 .1 .1 .1 .1 .1 .1 .1 .1 .0)) u1) (λ d1.
           w-fsplit ! $ w-drop ! $ w-fsplit ! $ w-drop ! $ w-fsplit ! $ w-drop ! $ w-fsplit ! $ w-drop ! $ w-fsplit ! $ w-drop ! $ w-fsplit ! $ w-drop ! $ w-fsplit ! $ w-drop ! $ w-fsplit ! $ w-drop ! $ w-fsplit ! $ w-fsplit ! $ w-move ! (1 ∷ []) $ w-feqL ! (λ same1-words. w-move ! (1 ∷ []) $ w-drop ! $
           w-move ! (1 ∷ []) $ w-split ! $ w-move ! (1 ∷ []) $ w-peeks ! usize (Is usize) (shows 𝓤 H A usize) u1 (r1 ∷ []) (λ is1. w-land ! (w-from ! (w-stop !)) (w-init ! 22 refl (uint-lawful 𝓤 H A W w64 .typed u1 _ is1 .0)) $
@@ -278,7 +281,7 @@ module _ {M : Type 1} (𝓤 : URA M) (H : Heap 𝓤) (A : Atoms 𝓤) (W : Given
           w-nothing ! $ w-move ! (3 ∷ 0 ∷ []) $ w-join ! $ w-move ! (4 ∷ 0 ∷ []) $ w-join ! $
           use2 W (raw (C-write-one 𝓤 H A mem run .pre (((ν2-3 ∷ [], (ν2-4 ∷ [], tt)), (fullShare, (fullShare, tt)), tt, (i, (u1, (n, (ref-words δ2-3 (zs1 .1 .1 .1 .1 .1 .1 .1 .1 .0), (ref-us δ2-4 v-us, tt))))), (vint w64 i ∷ [], (r1 ∷ [], (vint w64 n ∷ [], (sliceVal (b-words, o-words) (length (zs1 .1 .1 .1 .1 .1 .1 .1 .1 .0)) ∷ [], (sliceVal (b-us, o-us) (length v-us) ∷ [], tt)))))), tt))) (asked2 i v-words v-us len-words len-us kept small u1 r1 is1 (zs1 .1 .1 .1 .1 .1 .1 .1 .1 .0) d1 same1-words ν2-3 δ2-3 ν2-4 δ2-4) $
           w-calls-at ! fm (C-write-one 𝓤 H A mem run) known-write-one (((ν2-3 ∷ [], (ν2-4 ∷ [], tt)), (fullShare, (fullShare, tt)), tt, (i, (u1, (n, (ref-words δ2-3 (zs1 .1 .1 .1 .1 .1 .1 .1 .1 .0), (ref-us δ2-4 v-us, tt))))), (vint w64 i ∷ [], (r1 ∷ [], (vint w64 n ∷ [], (sliceVal (b-words, o-words) (length (zs1 .1 .1 .1 .1 .1 .1 .1 .1 .0)) ∷ [], (sliceVal (b-us, o-us) (length v-us) ∷ [], tt)))))), tt) (w-and-then ! (w-load ! (w-from ! (w-stop !)) (w-look ! 23 refl)) (w-and-then ! (w-load ! (w-from ! (w-stop !)) (w-look ! 24 refl)) (w-and-then ! (w-load ! (w-from ! (w-stop !)) (w-look ! 15 refl)) (w-and-then ! (w-load ! (w-from ! (w-stop !)) (w-look ! 30 refl)) (w-and-then ! (w-load ! (w-from ! (w-stop !)) (w-look ! 32 refl)) (w-no-more !)))))) (λ r2.
-          use1 W (later (some (λ (u : Unit {0}). ((‵ (flft (ν2-3 ∷ []) fullShare) ⊛ ‵ (flft (ν2-4 ∷ []) fullShare) ⊛ ‵ ftrue) ⊛ ‵ (Nothing .own u (r2 ∷ []))) ⊛ raw (ensured 𝓤 H A f-write-one.ended (f-write-one.clauses 𝓤 H A mem run) (ν2-3 ∷ [], (ν2-4 ∷ [], tt)) (i, (u1, (n, (ref-words δ2-3 (zs1 .1 .1 .1 .1 .1 .1 .1 .1 .0), (ref-us δ2-4 v-us, tt))))) tt u)))) (id⊢ 𝓤 _) $ w-await ! tt $ w-pick ! (λ u2.
+          use1 W (later (some (λ (u′ : Unit {0}). ((‵ (flft (ν2-3 ∷ []) fullShare) ⊛ ‵ (flft (ν2-4 ∷ []) fullShare) ⊛ ‵ ftrue) ⊛ ‵ (Nothing .own u′ (r2 ∷ []))) ⊛ raw (ensured 𝓤 H A f-write-one.ended (f-write-one.clauses 𝓤 H A mem run) (ν2-3 ∷ [], (ν2-4 ∷ [], tt)) (i, (u1, (n, (ref-words δ2-3 (zs1 .1 .1 .1 .1 .1 .1 .1 .1 .0), (ref-us δ2-4 v-us, tt))))) tt u′)))) (id⊢ 𝓤 _) $ w-await ! tt $ w-pick ! (λ u2.
           w-split ! $ w-move ! (1 ∷ []) $ use1 W (some (λ (zs2 : Unit {0} × (Unit {0} × (Unit {0} × (Unit {0} × (List Update × Unit {0}))))). ‵ (lasts f-write-one.ended (ν2-3 ∷ [], (ν2-4 ∷ [], tt)) (i, (u1, (n, (ref-words δ2-3 (zs1 .1 .1 .1 .1 .1 .1 .1 .1 .0), (ref-us δ2-4 v-us, tt))))) zs2) ⊛ raw (fact 𝓤 ((zs2 .1 .1 .1 .1 .0) ≡ written i u1 (drop (updatesAt n) ((zs1 .1 .1 .1 .1 .1 .1 .1 .1 .0))) (v-us))))) (id⊢ 𝓤 _) $ w-pick ! (λ zs2. w-split ! $ w-move ! (1 ∷ []) $ w-heard ! ((zs2 .1 .1 .1 .1 .0) ≡ written i u1 (drop (updatesAt n) ((zs1 .1 .1 .1 .1 .1 .1 .1 .1 .0))) (v-us)) (λ d2.
           w-fsplit ! $ w-drop ! $ w-fsplit ! $ w-drop ! $ w-fsplit ! $ w-drop ! $ w-fsplit ! $ w-drop ! $ w-fsplit ! $ w-fsplit ! $ w-move ! (1 ∷ []) $ w-feqL ! (λ same2-us. w-move ! (1 ∷ []) $ w-drop ! $
           w-move ! (1 ∷ []) $ w-split ! $ w-move ! (1 ∷ []) $ w-peeks ! Nothing (Is Nothing) (shows 𝓤 H A Nothing) u2 (r2 ∷ []) (λ is2. w-land ! (w-from ! (w-stop !)) (w-init ! 30 refl (nothing-lawful 𝓤 H A W .typed u2 _ is2 .0)) $
@@ -289,7 +292,7 @@ module _ {M : Type 1} (𝓤 : URA M) (H : Heap 𝓤) (A : Atoms 𝓤) (W : Given
           w-move ! (2 ∷ []) $ w-drop ! $
           w-forget ! 29 refl $ w-forget ! 30 refl $ w-forget ! 31 refl $ w-forget ! 32 refl $ w-forget ! 33 refl $ w-assigns-last ! (w-bin ! (w-load ! (w-from ! (w-stop !)) (w-look ! 24 refl)) (w-lit ! tt) (record { fits = next-fits })) (w-from ! (w-stop !)) (w-store ! 24 refl (tt, record { fits = next-fits })) $
           w-forget ! 25 refl $ w-forget ! 26 refl $ w-rewrite ! 24 (λ (j : ℕ). ‵ (fat fullShare ty10 l10 0 (vint w64 j))) (add-one i) refl $
-          w-keep ! (13 ∷ 12 ∷ 11 ∷ 10 ∷ 9 ∷ 2 ∷ 0 ∷ 8 ∷ 7 ∷ 6 ∷ 5 ∷ 4 ∷ 3 ∷ 1 ∷ 14 ∷ 15 ∷ 16 ∷ 17 ∷ 18 ∷ 19 ∷ 20 ∷ 21 ∷ 22 ∷ 23 ∷ 24 ∷ 25 ∷ 26 ∷ 27 ∷ 28 ∷ 29 ∷ 30 ∷ 31 ∷ 32 ∷ 33 ∷ 34 ∷ 35 ∷ 36 ∷ 37 ∷ 38 ∷ 39 ∷ 40 ∷ 41 ∷ 42 ∷ 43 ∷ 44 ∷ 45 ∷ 46 ∷ 47 ∷ 48 ∷ 49 ∷ 50 ∷ 51 ∷ 52 ∷ 53 ∷ []) $ w-by ! (k (zs1 .1 .1 .1 .1 .1 .1 .1 .1 .0) (zs2 .1 .1 .1 .1 .0) (same1-words ∙ len-words) (same2-us ∙ len-us) (again i v-words v-us len-words len-us kept small u1 r1 is1 (zs1 .1 .1 .1 .1 .1 .1 .1 .1 .0) d1 same1-words (zs2 .1 .1 .1 .1 .0) d2 same2-us))))))))))))))))))))
+          w-keep ! (13 ∷ 12 ∷ 11 ∷ 10 ∷ 9 ∷ 2 ∷ 0 ∷ 8 ∷ 7 ∷ 6 ∷ 5 ∷ 4 ∷ 3 ∷ 1 ∷ 14 ∷ 15 ∷ 16 ∷ 17 ∷ 18 ∷ 19 ∷ 20 ∷ 21 ∷ 22 ∷ 23 ∷ 24 ∷ 25 ∷ 26 ∷ 27 ∷ 28 ∷ 29 ∷ 30 ∷ 31 ∷ 32 ∷ 33 ∷ 34 ∷ []) $ w-by ! (k (zs1 .1 .1 .1 .1 .1 .1 .1 .1 .0) (zs2 .1 .1 .1 .1 .0) (same1-words ∙ len-words) (same2-us ∙ len-us) (again i v-words v-us len-words len-us kept small u1 r1 is1 (zs1 .1 .1 .1 .1 .1 .1 .1 .1 .0) d1 same1-words (zs2 .1 .1 .1 .1 .0) d2 same2-us))))))))))))))))))))
 
       left : (v-words : List ℕ) (v-us : List Update) (len-words : length v-words ≡ length words) (len-us : length v-us ≡ length us) (kept : Writing n ns input-starts input-rows words v-words us v-us ns) (X : SProp 𝓤) → ent 𝓤 (⋆ 𝓤 H A (At ns v-words v-us)) (Wp 𝓤 H C Λ En body.turn-1 (afterTurn 𝓤 H X Left))
       unfolding afterTurn
@@ -300,7 +303,8 @@ module _ {M : Type 1} (𝓤 : URA M) (H : Heap 𝓤) (A : Atoms 𝓤) (W : Given
           w-leaves-loop ! (w-load ! (w-from ! (w-stop !)) (w-look ! 26 refl)) $ w-exec ! C Λ En body.t-3 (atRet En Post) $
           w-assigns ! (w-of-opd ! (w-unit-lit !)) (w-from ! (w-stop !)) (w-init ! 14 refl (tt, tt)) $
           w-returns ! (w-look ! 14 refl) $ w-forget ! 14 refl $ w-forget ! 15 refl $ w-forget ! 16 refl $ w-forget ! 17 refl $ w-forget ! 18 refl $ w-forget ! 19 refl $ w-forget ! 20 refl $ w-forget ! 21 refl $ w-forget ! 22 refl $ w-forget ! 23 refl $ w-forget ! 24 refl $ w-forget ! 26 refl $
-          w-move ! (14 ∷ 34 ∷ []) $ w-free1 ! $ w-move ! (14 ∷ 33 ∷ []) $ w-free1 ! $ w-move ! (14 ∷ 32 ∷ []) $ w-free1 ! $ w-move ! (14 ∷ 31 ∷ []) $ w-free1 ! $ w-move ! (14 ∷ 30 ∷ []) $ w-free1 ! $ w-move ! (14 ∷ 29 ∷ []) $ w-free1 ! $ w-move ! (14 ∷ 28 ∷ []) $ w-free1 ! $ w-move ! (14 ∷ 27 ∷ []) $ w-free1 ! $ w-move ! (14 ∷ 26 ∷ []) $ w-free1 ! $ w-move ! (14 ∷ 25 ∷ []) $ w-free1 ! $ w-move ! (14 ∷ 24 ∷ []) $ w-free1 ! $ w-move ! (14 ∷ 23 ∷ []) $ w-free1 ! $ w-move ! (14 ∷ 22 ∷ []) $ w-free1 ! $ w-move ! (14 ∷ 21 ∷ []) $ w-free1 ! $ w-move ! (14 ∷ 20 ∷ []) $ w-free1 ! $ w-move ! (14 ∷ 19 ∷ []) $ w-free1 ! $ w-move ! (14 ∷ 18 ∷ []) $ w-free1 ! $ w-move ! (14 ∷ 17 ∷ []) $ w-free1 ! $ w-move ! (14 ∷ 16 ∷ []) $ w-free1 ! $ w-move ! (14 ∷ 15 ∷ []) $ w-free1 ! $ w-free0 ! $
+          w-move ! (34 ∷ []) $ w-unpack ! (‵ (fdies ty0 l0) ∷ ‵ (fdies ty1 l1) ∷ ‵ (fdies ty2 l2) ∷ ‵ (fdies ty3 l3) ∷ ‵ (fdies ty4 l4) ∷ ‵ (fdies ty5 l5) ∷ ‵ (fdies ty6 l6) ∷ ‵ (fdies ty7 l7) ∷ ‵ (fdies ty8 l8) ∷ ‵ (fdies ty9 l9) ∷ ‵ (fdies ty10 l10) ∷ ‵ (fdies ty11 l11) ∷ ‵ (fdies ty12 l12) ∷ ‵ (fdies ty13 l13) ∷ ‵ (fdies ty14 l14) ∷ ‵ (fdies ty15 l15) ∷ ‵ (fdies ty16 l16) ∷ ‵ (fdies ty17 l17) ∷ ‵ (fdies ty18 l18) ∷ ‵ (fdies ty19 l19) ∷ []) $
+          w-move ! (34 ∷ 0 ∷ 35 ∷ 1 ∷ 36 ∷ 2 ∷ 37 ∷ 3 ∷ 38 ∷ 4 ∷ 39 ∷ 5 ∷ 40 ∷ 6 ∷ 41 ∷ 7 ∷ 42 ∷ 8 ∷ 43 ∷ 9 ∷ 44 ∷ 10 ∷ 45 ∷ 11 ∷ 46 ∷ 12 ∷ 47 ∷ 13 ∷ 48 ∷ 14 ∷ 49 ∷ 15 ∷ 50 ∷ 16 ∷ 51 ∷ 17 ∷ 52 ∷ 18 ∷ 53 ∷ 19 ∷ []) $ w-homes-freed ! En $
           w-keep ! (7 ∷ 8 ∷ 9 ∷ 10 ∷ 11 ∷ 12 ∷ 13 ∷ 0 ∷ 1 ∷ 2 ∷ 3 ∷ 4 ∷ 5 ∷ 6 ∷ []) $ w-by ! (exits v-words v-us len-words len-us kept)
 
       ends : (i : ℕ) (v-words : List ℕ) (v-us : List Update) → i ≡ ns → length v-words ≡ length words → length v-us ≡ length us → Writing n ns input-starts input-rows words v-words us v-us i → (X : SProp 𝓤) → ent 𝓤 (⋆ 𝓤 H A (At i v-words v-us)) (Wp 𝓤 H C Λ En body.turn-1 (afterTurn 𝓤 H X Left))
@@ -333,7 +337,8 @@ module _ {M : Type 1} (𝓤 : URA M) (H : Heap 𝓤) (A : Atoms 𝓤) (W : Given
         w-move ! (41 ∷ []) $ w-fsplit ! $ w-drop ! $ w-fsplit ! $ w-drop ! $ w-fsplit ! $ w-move ! (1 ∷ []) $ w-fsplit ! $ w-move ! (1 ∷ []) $ w-fsplit ! $ w-move ! (1 ∷ []) $ w-fsplit ! $ w-move ! (1 ∷ []) $ w-fsplit ! $ w-move ! (1 ∷ []) $ w-fsplit ! $ w-move ! (1 ∷ []) $ w-fsplit ! $ w-move ! (1 ∷ []) $ w-drop ! $
         w-move ! (47 ∷ []) $ w-split ! $ w-move ! (1 ∷ []) $ w-split ! $ w-move ! (1 ∷ []) $ w-split ! $ w-move ! (1 ∷ []) $ w-split ! $ w-move ! (1 ∷ []) $ w-split ! $ w-move ! (1 ∷ []) $ w-split ! $ w-move ! (1 ∷ []) $ w-split ! $ w-move ! (1 ∷ []) $ w-drop ! $
         w-assigns ! (w-of-opd ! (w-lit ! tt)) (w-from ! (w-stop !)) (w-init ! 32 refl (tt, record { fits = lit< tt })) $
-        w-keep ! (13 ∷ 12 ∷ 11 ∷ 10 ∷ 9 ∷ 8 ∷ 7 ∷ 6 ∷ 5 ∷ 4 ∷ 3 ∷ 2 ∷ 1 ∷ 0 ∷ 52 ∷ 50 ∷ 48 ∷ 46 ∷ 44 ∷ 42 ∷ 40 ∷ 38 ∷ 36 ∷ 34 ∷ 32 ∷ 30 ∷ 28 ∷ 26 ∷ 24 ∷ 22 ∷ 20 ∷ 18 ∷ 16 ∷ 14 ∷ 53 ∷ 51 ∷ 49 ∷ 47 ∷ 45 ∷ 43 ∷ 41 ∷ 39 ∷ 37 ∷ 35 ∷ 33 ∷ 31 ∷ 29 ∷ 27 ∷ 25 ∷ 23 ∷ 21 ∷ 19 ∷ 17 ∷ 15 ∷ []) $ w-by ! (loops l0 l1 l2 l3 l4 l5 l6 l7 l8 l9 l10 l11 l12 l13 l14 l15 l16 l17 l18 l19)))))))))))))))))))))
+        w-move ! (53 ∷ 51 ∷ 49 ∷ 47 ∷ 45 ∷ 43 ∷ 41 ∷ 39 ∷ 37 ∷ 35 ∷ 33 ∷ 31 ∷ 29 ∷ 27 ∷ 25 ∷ 23 ∷ 21 ∷ 19 ∷ 17 ∷ 15 ∷ []) $ w-pack ! (‵ (fdies ty0 l0) ∷ ‵ (fdies ty1 l1) ∷ ‵ (fdies ty2 l2) ∷ ‵ (fdies ty3 l3) ∷ ‵ (fdies ty4 l4) ∷ ‵ (fdies ty5 l5) ∷ ‵ (fdies ty6 l6) ∷ ‵ (fdies ty7 l7) ∷ ‵ (fdies ty8 l8) ∷ ‵ (fdies ty9 l9) ∷ ‵ (fdies ty10 l10) ∷ ‵ (fdies ty11 l11) ∷ ‵ (fdies ty12 l12) ∷ ‵ (fdies ty13 l13) ∷ ‵ (fdies ty14 l14) ∷ ‵ (fdies ty15 l15) ∷ ‵ (fdies ty16 l16) ∷ ‵ (fdies ty17 l17) ∷ ‵ (fdies ty18 l18) ∷ ‵ (fdies ty19 l19) ∷ []) $
+        w-keep ! (14 ∷ 13 ∷ 12 ∷ 11 ∷ 10 ∷ 9 ∷ 8 ∷ 7 ∷ 6 ∷ 5 ∷ 4 ∷ 3 ∷ 2 ∷ 1 ∷ 34 ∷ 33 ∷ 32 ∷ 31 ∷ 30 ∷ 29 ∷ 28 ∷ 27 ∷ 26 ∷ 25 ∷ 24 ∷ 23 ∷ 22 ∷ 21 ∷ 20 ∷ 19 ∷ 18 ∷ 17 ∷ 16 ∷ 15 ∷ 0 ∷ []) $ w-by ! (loops l0 l1 l2 l3 l4 l5 l6 l7 l8 l9 l10 l11 l12 l13 l14 l15 l16 l17 l18 l19)))))))))))))))))))))
 
 module _ {M : Type 1} (𝓤 : URA M) (H : Heap 𝓤) (A : Atoms 𝓤) (W : Given 𝓤 H A) (mem : Memory → SProp 𝓤) (run : Routine → Fun 𝓤) where
   here-walks : (𝓣 : Tables 𝓤 H) (known-scan-one : Triple 𝓤 (𝓣 .C #updates·scan-one) (C-scan-one 𝓤 H A mem run)) (known-write-one : Triple 𝓤 (𝓣 .C #listing·write-one) (C-write-one 𝓤 H A mem run)) → Walks 𝓤 H A here.ended stayed (WpFn 𝓤 H (𝓣 .C) (𝓣 .Λ) code.function) (here.clauses 𝓤 H A mem run)
