@@ -18,7 +18,7 @@ use Rattle.step.specs.Ready.{row, Rows}
 use Rattle.step.specs.Answer.{Ready, Stepped}
 use Rattle.step.specs.declared.StepAnswer.{StepAnswer}
 use Rattle.step.proofs.Gather as gather
-use Rattle.turn.specs.Turn.{At, Fetched}
+use Rattle.turn.specs.Turn.{DueAt, Fetched}
 
 -- words that are the same from e on
 pub drop-same : (v w : List ℕ) (e x : ℕ) → e ≤ x → drop e w ≡ drop e v → drop x w ≡ drop x v
@@ -31,7 +31,7 @@ drop-same v w e x h q = back w ∙ ap (drop (x - e)) q ∙ sym (back v)
 pub later : (v w : List ℕ) (e x : ℕ) → e ≤ x → drop e w ≡ drop e v → part.mid 0 w x ≡ drop x v
 later v w e x h q = part.mid-is 0 w x ∙ drop-same v w e x h q
 
-module _ (S : Shape) (J a : ℕ) (groups words : List ℕ) (floats : List Float) (vlen : ℕ) (t : At S J a groups words floats vlen) where
+module _ (S : Shape) (J a : ℕ) (groups words : List ℕ) (floats : List Float) (vlen : ℕ) (t : DueAt S J a groups words floats vlen) where
   abbrev e : ℕ
   e = updatesAt (S .n)
 

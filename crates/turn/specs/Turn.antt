@@ -14,7 +14,7 @@ use Rattle.updates.specs.Layout.{updatesAt, ownersAt, offsetsAt, parentsAt, sta
 use Rattle.step.specs.Ready.{Rows, inWords, Listed, Offsets}
 
 -- for the supernode J
-pub record At (S : Shape) (J a : ℕ) (groups words : List ℕ) (floats : List Float) (vlen : ℕ) : Type 0 where
+pub record DueAt (S : Shape) (J a : ℕ) (groups words : List ℕ) (floats : List Float) (vlen : ℕ) : Type 0 where
   pub shape : Rows S (suc J)
   pub grouped : suc J < length groups
   pub inside : rowsAt (S .n) ≤ length words
@@ -46,7 +46,7 @@ under n firsts starts rows parents = record { n = n; firsts = firsts; starts = s
 
 -- for any of the first ns supernodes
 pub record Due (n : ℕ) (firsts starts rows : List ℕ) (ns a : ℕ) (groups words : List ℕ) (floats : List Float) (entries : ℕ) : Type 0 where
-  pub at : (J : ℕ) → J < ns → At (laid n firsts starts rows) J a groups words floats entries
+  pub at : (J : ℕ) → J < ns → DueAt (laid n firsts starts rows) J a groups words floats entries
   pub few : ns ≤ n
   pub up : (K : ℕ) → K < ns → K < getD words (parentsAt n + K) 0
   pub top : (K : ℕ) → K < ns → getD words (parentsAt n + K) 0 ≤ n

@@ -7,7 +7,7 @@ ghost use Rattle.laws.specs.Lent.{laid};
 ghost use Rattle.laws.specs.Lower.{lowerValue};
 ghost use Rattle.updates.specs.Layout.{ownersAt, parentsAt, namesAt, startsAt, rowsAt};
 ghost use Rattle.step.specs.Answer.{Stepped};
-ghost use Rattle.turn.specs.Turn.{At, Fetched, keptAt, under, Due, Turned};
+ghost use Rattle.turn.specs.Turn.{DueAt, Fetched, keptAt, under, Due, Turned};
 use statement::Factored;
 use statement::Update;
 use step::StepAnswer;
@@ -60,7 +60,7 @@ fn one(
     floats: &mut [f64],
     values: &mut [f64],
 ) -> StepAnswer
-    requires { ⌜ At (laid n (now firsts) (now starts) (now rows)) j a (now groups) (now words) (now floats) (length (now values)) ⌝ }
+    requires { ⌜ DueAt (laid n (now firsts) (now starts) (now rows)) j a (now groups) (now words) (now floats) (length (now values)) ⌝ }
     requires { ⌜ Fetched (laid n (now firsts) (now starts) (now rows)) j (now groups) (now words) ⌝ }
     ensures { λ r. ⌜ Stepped (laid n (now (firsts .entry)) (now (starts .entry)) (now (rows .entry))) (lowerValue (drop (startsAt n) (now (words .entry))) (drop (rowsAt n) (now (words .entry))) (take a (now (floats .entry)))) j (now (values .entry)) (now (values .exit)) r ⌝ }
     ensures { λ r. ⌜ (take a (now (floats .exit)) ≡ take a (now (floats .entry))) × (take (n + 1) (now (words .exit)) ≡ take (n + 1) (now (words .entry))) × (drop (ownersAt n) (now (words .exit)) ≡ drop (ownersAt n) (now (words .entry))) ⌝ }
