@@ -46,7 +46,7 @@ use sound.Loop.{loop-rule}
 use sound.WpLaws.{FmC, WpFn-mono, fmOf}
 use types.Kit.{ !, Given, Item, _$_, _∵_, _⊛_, anyQ, atRet, await as w-await, by as w-by, done, drop as w-drop, feqI as w-feqI, feqL as w-feqL, fjoin as w-fjoin, frame as w-frame, fsplit as w-fsplit, join as w-join, keep as w-keep, later, move as w-move, pick as w-pick, qed, raw, rewrite as w-rewrite, some, split as w-split, suffices as w-suffices, use1, use2, use3, ‵, ⋆}
 use types.Part.{agg as w-agg, look-in as w-look-in, sub as w-sub, whole as w-whole}
-use types.Run.{addr as w-addr, alloc0 as w-alloc0, alloc1 as w-alloc1, and-then as w-and-then, assigns as w-assigns, assigns-last as w-assigns-last, bin as w-bin, enter as w-enter, exec as w-exec, fld as w-fld, forget as w-forget, free0 as w-free0, free1 as w-free1, from as w-from, hop as w-hop, init as w-init, land as w-land, leaves-loop as w-leaves-loop, lit as w-lit, load as w-load, look as w-look, no-more as w-no-more, of-opd as w-of-opd, params1 as w-params1, pass0 as w-pass0, pass1 as w-pass1, returns as w-returns, stays as w-stays, stop as w-stop, store as w-store, unit-lit as w-unit-lit}
+use types.Run.{addr as w-addr, alloc0 as w-alloc0, alloc1 as w-alloc1, and-then as w-and-then, assigns as w-assigns, assigns-last as w-assigns-last, bin as w-bin, enter as w-enter, exec as w-exec, fld as w-fld, forget as w-forget, from as w-from, hop as w-hop, init as w-init, land as w-land, leaves-loop as w-leaves-loop, lit as w-lit, load as w-load, look as w-look, no-more as w-no-more, of-opd as w-of-opd, params1 as w-params1, pass0 as w-pass0, pass1 as w-pass1, returns as w-returns, stays as w-stays, stop as w-stop, store as w-store, unit-lit as w-unit-lit}
 use types.Tokens.{lft-end as w-lft-end, lft-new as w-lft-new}
 use denote.Struct.Laws as LL
 use Rattle.statement.specs.declared.Update.{Update}
@@ -60,6 +60,7 @@ use Rattle.turn.proofs.keep as f-keep
 use Rattle.turn.proofs.keep.Symbol as def-keep
 use Rattle.turn.proofs.keep.Symbol.{name as #turn·keep}
 use Rattle.turn.proofs.keep.Met as thm-keep
+use Rattle.update.proofs.Packs.{Packed, pack as w-pack, unpack as w-unpack, homes-freed as w-homes-freed}
 use Rattle.update.proofs.Again.{LentAgain, lends-again, comes-back}
 use Rattle.run.proofs.fetch.Key.{name as #run·fetch}
 use Rattle.run.proofs.fetch as here
@@ -172,9 +173,12 @@ module _ {M : Type 1} (𝓤 : URA M) (H : Heap 𝓤) (A : Atoms 𝓤) (W : Given
       abbrev En : Env 𝓤 H
       En = (ty0, l0) ∷ (ty1, l1) ∷ (ty2, l2) ∷ (ty3, l3) ∷ (ty4, l4) ∷ (ty5, l5) ∷ (ty6, l6) ∷ (ty7, l7) ∷ (ty8, l8) ∷ (ty9, l9) ∷ (ty10, l10) ∷ (ty11, l11) ∷ []
 
+      abbrev dying : List (Item 𝓤)
+      dying = ‵ (fdies ty0 l0) ∷ ‵ (fdies ty1 l1) ∷ ‵ (fdies ty2 l2) ∷ ‵ (fdies ty3 l3) ∷ ‵ (fdies ty4 l4) ∷ ‵ (fdies ty5 l5) ∷ ‵ (fdies ty6 l6) ∷ ‵ (fdies ty7 l7) ∷ ‵ (fdies ty8 l8) ∷ ‵ (fdies ty9 l9) ∷ ‵ (fdies ty10 l10) ∷ ‵ (fdies ty11 l11) ∷ []
+
       -- the context where i turns are done
       abbrev At : (i : ℕ) (v-words : List ℕ) → List (Item 𝓤)
-      At i v-words = ‵ (ShrSlice (named 0) κ-us T-Update.the-row .own (ref-us γ-us us) (sliceVal (b-us, o-us) (length us) ∷ [])) ∷ ‵ (MutSlice (named 1) κ-words usize .own (ref-words γ-words v-words) (sliceVal (b-words, o-words) (length words) ∷ [])) ∷ ‵ (flft κ-us q-us) ∷ ‵ (flft κ-words q-words) ∷ ‵ (froom ty0 l0 0) ∷ ‵ (fat fullShare ty1 l1 0 (vint w64 lo)) ∷ ‵ (fat fullShare ty2 l2 0 (vint w64 hi)) ∷ ‵ (fat fullShare ty3 l3 0 (vint w64 n)) ∷ ‵ (fat fullShare ty4 l4 0 s-us) ∷ ‵ (fat fullShare ty5 l5 0 s-words) ∷ ‵ (fat fullShare ty6 l6 0 (vint w64 i)) ∷ ‵ (froom ty7 l7 0) ∷ ‵ (froom ty8 l8 0) ∷ ‵ (froom ty9 l9 0) ∷ ‵ (froom ty10 l10 0) ∷ ‵ (froom ty11 l11 0) ∷ ‵ (fdies ty0 l0) ∷ ‵ (fdies ty1 l1) ∷ ‵ (fdies ty2 l2) ∷ ‵ (fdies ty3 l3) ∷ ‵ (fdies ty4 l4) ∷ ‵ (fdies ty5 l5) ∷ ‵ (fdies ty6 l6) ∷ ‵ (fdies ty7 l7) ∷ ‵ (fdies ty8 l8) ∷ ‵ (fdies ty9 l9) ∷ ‵ (fdies ty10 l10) ∷ ‵ (fdies ty11 l11) ∷ []
+      At i v-words = ‵ (ShrSlice (named 0) κ-us T-Update.the-row .own (ref-us γ-us us) (sliceVal (b-us, o-us) (length us) ∷ [])) ∷ ‵ (MutSlice (named 1) κ-words usize .own (ref-words γ-words v-words) (sliceVal (b-words, o-words) (length words) ∷ [])) ∷ ‵ (flft κ-us q-us) ∷ ‵ (flft κ-words q-words) ∷ ‵ (froom ty0 l0 0) ∷ ‵ (fat fullShare ty1 l1 0 (vint w64 lo)) ∷ ‵ (fat fullShare ty2 l2 0 (vint w64 hi)) ∷ ‵ (fat fullShare ty3 l3 0 (vint w64 n)) ∷ ‵ (fat fullShare ty4 l4 0 s-us) ∷ ‵ (fat fullShare ty5 l5 0 s-words) ∷ ‵ (fat fullShare ty6 l6 0 (vint w64 i)) ∷ ‵ (froom ty7 l7 0) ∷ ‵ (froom ty8 l8 0) ∷ ‵ (froom ty9 l9 0) ∷ ‵ (froom ty10 l10 0) ∷ ‵ (froom ty11 l11 0) ∷ raw (Packed 𝓤 H A dying) ∷ []
 
       -- the invariant, where t turns are left
       abbrev Inv : ℕ → SProp 𝓤
@@ -200,7 +204,7 @@ module _ {M : Type 1} (𝓤 : URA M) (H : Heap 𝓤) (A : Atoms 𝓤) (W : Given
           w-nothing ! $ w-move ! (4 ∷ 0 ∷ []) $ w-join ! $
           use2 W (raw (C-update-at 𝓤 H A mem run .pre (((κ-us, tt), (q-us, tt), tt, (ref-us γ-us us, (i, tt)), (sliceVal (b-us, o-us) (length us) ∷ [], (vint w64 i ∷ [], tt))), tt))) (asked1 i v-words len-words kept small) $
           w-calls-at ! fm (C-update-at 𝓤 H A mem run) known-update-at (((κ-us, tt), (q-us, tt), tt, (ref-us γ-us us, (i, tt)), (sliceVal (b-us, o-us) (length us) ∷ [], (vint w64 i ∷ [], tt))), tt) (w-and-then ! (w-load ! (w-from ! (w-stop !)) (w-look ! 8 refl)) (w-and-then ! (w-load ! (w-from ! (w-stop !)) (w-look ! 10 refl)) (w-no-more !))) (λ r1.
-          use1 W (later (some (λ (u : Update). ((‵ (flft (κ-us) q-us) ⊛ ‵ ftrue) ⊛ ‵ (T-Update.the-row .own u (r1 ∷ []))) ⊛ raw (ensured 𝓤 H A f-update-at.ended (f-update-at.clauses 𝓤 H A mem run) (κ-us, tt) (ref-us γ-us us, (i, tt)) tt u)))) (id⊢ 𝓤 _) $ w-await ! tt $ w-pick ! (λ u1.
+          use1 W (later (some (λ (u′ : Update). ((‵ (flft (κ-us) q-us) ⊛ ‵ ftrue) ⊛ ‵ (T-Update.the-row .own u′ (r1 ∷ []))) ⊛ raw (ensured 𝓤 H A f-update-at.ended (f-update-at.clauses 𝓤 H A mem run) (κ-us, tt) (ref-us γ-us us, (i, tt)) tt u′)))) (id⊢ 𝓤 _) $ w-await ! tt $ w-pick ! (λ u1.
           w-split ! $ w-move ! (1 ∷ []) $ use1 W (some (λ (zs1 : Unit {0} × (Unit {0} × Unit {0})). ‵ (lasts f-update-at.ended (κ-us, tt) (ref-us γ-us us, (i, tt)) zs1) ⊛ raw (fact 𝓤 (u1 ≡ getD (us) i noUpdate)))) (id⊢ 𝓤 _) $ w-pick ! (λ zs1. w-split ! $ w-move ! (1 ∷ []) $ w-heard ! (u1 ≡ getD (us) i noUpdate) (λ d1.
           w-fsplit ! $ w-drop ! $ w-fsplit ! $ w-drop ! $ w-drop ! $
           w-split ! $ w-move ! (1 ∷ []) $ w-peeks ! T-Update.the-row (Is T-Update.the-row) (shows 𝓤 H A T-Update.the-row) u1 (r1 ∷ []) (λ is1. w-land ! (w-from ! (w-stop !)) (w-init ! 12 refl (LL.lawful T-Update.the-type L-Update.the-laws 𝓤 H A W .typed u1 _ is1 .0)) $
@@ -212,7 +216,7 @@ module _ {M : Type 1} (𝓤 : URA M) (H : Heap 𝓤) (A : Atoms 𝓤) (W : Given
           w-nothing ! $ w-move ! (3 ∷ 0 ∷ []) $ w-join ! $
           use2 W (raw (C-keep 𝓤 H A mem run .pre (((ν2-4 ∷ [], tt), (fullShare, tt), tt, (u1, (i, (lo, (n, (ref-words δ2-4 v-words, tt))))), (r1 ∷ [], (vint w64 i ∷ [], (vint w64 lo ∷ [], (vint w64 n ∷ [], (sliceVal (b-words, o-words) (length v-words) ∷ [], tt)))))), tt))) (asked2 i v-words len-words kept small u1 r1 is1 d1 ν2-4 δ2-4) $
           w-calls-at ! fm (C-keep 𝓤 H A mem run) known-keep (((ν2-4 ∷ [], tt), (fullShare, tt), tt, (u1, (i, (lo, (n, (ref-words δ2-4 v-words, tt))))), (r1 ∷ [], (vint w64 i ∷ [], (vint w64 lo ∷ [], (vint w64 n ∷ [], (sliceVal (b-words, o-words) (length v-words) ∷ [], tt)))))), tt) (w-and-then ! (w-load ! (w-from ! (w-stop !)) (w-look ! 11 refl)) (w-and-then ! (w-load ! (w-from ! (w-stop !)) (w-look ! 10 refl)) (w-and-then ! (w-load ! (w-from ! (w-stop !)) (w-look ! 5 refl)) (w-and-then ! (w-load ! (w-from ! (w-stop !)) (w-look ! 7 refl)) (w-and-then ! (w-load ! (w-from ! (w-stop !)) (w-look ! 15 refl)) (w-no-more !)))))) (λ r2.
-          use1 W (later (some (λ (u : Unit {0}). ((‵ (flft (ν2-4 ∷ []) fullShare) ⊛ ‵ ftrue) ⊛ ‵ (Nothing .own u (r2 ∷ []))) ⊛ raw (ensured 𝓤 H A f-keep.ended (f-keep.clauses 𝓤 H A mem run) (ν2-4 ∷ [], tt) (u1, (i, (lo, (n, (ref-words δ2-4 v-words, tt))))) tt u)))) (id⊢ 𝓤 _) $ w-await ! tt $ w-pick ! (λ u2.
+          use1 W (later (some (λ (u′ : Unit {0}). ((‵ (flft (ν2-4 ∷ []) fullShare) ⊛ ‵ ftrue) ⊛ ‵ (Nothing .own u′ (r2 ∷ []))) ⊛ raw (ensured 𝓤 H A f-keep.ended (f-keep.clauses 𝓤 H A mem run) (ν2-4 ∷ [], tt) (u1, (i, (lo, (n, (ref-words δ2-4 v-words, tt))))) tt u′)))) (id⊢ 𝓤 _) $ w-await ! tt $ w-pick ! (λ u2.
           w-split ! $ w-move ! (1 ∷ []) $ use1 W (some (λ (zs2 : Unit {0} × (Unit {0} × (Unit {0} × (Unit {0} × (List ℕ × Unit {0}))))). ‵ (lasts f-keep.ended (ν2-4 ∷ [], tt) (u1, (i, (lo, (n, (ref-words δ2-4 v-words, tt))))) zs2) ⊛ raw (fact 𝓤 ((zs2 .1 .1 .1 .1 .0) ≡ keptAt n (i - lo) u1 (v-words))))) (id⊢ 𝓤 _) $ w-pick ! (λ zs2. w-split ! $ w-move ! (1 ∷ []) $ w-heard ! ((zs2 .1 .1 .1 .1 .0) ≡ keptAt n (i - lo) u1 (v-words)) (λ d2.
           w-fsplit ! $ w-drop ! $ w-fsplit ! $ w-drop ! $ w-fsplit ! $ w-drop ! $ w-fsplit ! $ w-drop ! $ w-fsplit ! $ w-fsplit ! $ w-move ! (1 ∷ []) $ w-feqL ! (λ same2-words. w-move ! (1 ∷ []) $ w-drop ! $
           w-move ! (1 ∷ []) $ w-split ! $ w-move ! (1 ∷ []) $ w-peeks ! Nothing (Is Nothing) (shows 𝓤 H A Nothing) u2 (r2 ∷ []) (λ is2. w-land ! (w-from ! (w-stop !)) (w-init ! 15 refl (nothing-lawful 𝓤 H A W .typed u2 _ is2 .0)) $
@@ -221,7 +225,7 @@ module _ {M : Type 1} (𝓤 : URA M) (H : Heap 𝓤) (A : Atoms 𝓤) (W : Given
           w-move ! (2 ∷ []) $ w-drop ! $
           w-forget ! 13 refl $ w-forget ! 14 refl $ w-forget ! 15 refl $ w-assigns-last ! (w-bin ! (w-load ! (w-from ! (w-stop !)) (w-look ! 10 refl)) (w-lit ! tt) (record { fits = next-fits })) (w-from ! (w-stop !)) (w-store ! 10 refl (tt, record { fits = next-fits })) $
           w-forget ! 11 refl $ w-forget ! 12 refl $ w-rewrite ! 10 (λ (j : ℕ). ‵ (fat fullShare ty6 l6 0 (vint w64 j))) (add-one i) refl $
-          w-keep ! (3 ∷ 0 ∷ 2 ∷ 1 ∷ 4 ∷ 5 ∷ 6 ∷ 7 ∷ 8 ∷ 9 ∷ 10 ∷ 11 ∷ 12 ∷ 13 ∷ 14 ∷ 15 ∷ 16 ∷ 17 ∷ 18 ∷ 19 ∷ 20 ∷ 21 ∷ 22 ∷ 23 ∷ 24 ∷ 25 ∷ 26 ∷ 27 ∷ []) $ w-by ! (k (zs2 .1 .1 .1 .1 .0) (same2-words ∙ len-words) (again i v-words len-words kept small u1 r1 is1 d1 (zs2 .1 .1 .1 .1 .0) d2 same2-words)))))))))))))))
+          w-keep ! (3 ∷ 0 ∷ 2 ∷ 1 ∷ 4 ∷ 5 ∷ 6 ∷ 7 ∷ 8 ∷ 9 ∷ 10 ∷ 11 ∷ 12 ∷ 13 ∷ 14 ∷ 15 ∷ 16 ∷ []) $ w-by ! (k (zs2 .1 .1 .1 .1 .0) (same2-words ∙ len-words) (again i v-words len-words kept small u1 r1 is1 d1 (zs2 .1 .1 .1 .1 .0) d2 same2-words)))))))))))))))
 
       left : (v-words : List ℕ) (len-words : length v-words ≡ length words) (kept : (lo ≤ hi) × Brought lo (hi - lo) n us words v-words) (X : SProp 𝓤) → ent 𝓤 (⋆ 𝓤 H A (At hi v-words)) (Wp 𝓤 H C Λ En body.turn-1 (afterTurn 𝓤 H X Left))
       unfolding afterTurn
@@ -232,7 +236,8 @@ module _ {M : Type 1} (𝓤 : URA M) (H : Heap 𝓤) (A : Atoms 𝓤) (W : Given
           w-leaves-loop ! (w-load ! (w-from ! (w-stop !)) (w-look ! 12 refl)) $ w-exec ! C Λ En body.t-3 (atRet En Post) $
           w-assigns ! (w-of-opd ! (w-unit-lit !)) (w-from ! (w-stop !)) (w-init ! 4 refl (tt, tt)) $
           w-returns ! (w-look ! 4 refl) $ w-forget ! 4 refl $ w-forget ! 5 refl $ w-forget ! 6 refl $ w-forget ! 7 refl $ w-forget ! 8 refl $ w-forget ! 9 refl $ w-forget ! 10 refl $ w-forget ! 12 refl $
-          w-move ! (4 ∷ 16 ∷ []) $ w-free1 ! $ w-move ! (4 ∷ 15 ∷ []) $ w-free1 ! $ w-move ! (4 ∷ 14 ∷ []) $ w-free1 ! $ w-move ! (4 ∷ 13 ∷ []) $ w-free1 ! $ w-move ! (4 ∷ 12 ∷ []) $ w-free1 ! $ w-move ! (4 ∷ 11 ∷ []) $ w-free1 ! $ w-move ! (4 ∷ 10 ∷ []) $ w-free1 ! $ w-move ! (4 ∷ 9 ∷ []) $ w-free1 ! $ w-move ! (4 ∷ 8 ∷ []) $ w-free1 ! $ w-move ! (4 ∷ 7 ∷ []) $ w-free1 ! $ w-move ! (4 ∷ 6 ∷ []) $ w-free1 ! $ w-move ! (4 ∷ 5 ∷ []) $ w-free1 ! $ w-free0 ! $
+          w-move ! (16 ∷ []) $ w-unpack ! (‵ (fdies ty0 l0) ∷ ‵ (fdies ty1 l1) ∷ ‵ (fdies ty2 l2) ∷ ‵ (fdies ty3 l3) ∷ ‵ (fdies ty4 l4) ∷ ‵ (fdies ty5 l5) ∷ ‵ (fdies ty6 l6) ∷ ‵ (fdies ty7 l7) ∷ ‵ (fdies ty8 l8) ∷ ‵ (fdies ty9 l9) ∷ ‵ (fdies ty10 l10) ∷ ‵ (fdies ty11 l11) ∷ []) $
+          w-move ! (16 ∷ 0 ∷ 17 ∷ 1 ∷ 18 ∷ 2 ∷ 19 ∷ 3 ∷ 20 ∷ 4 ∷ 21 ∷ 5 ∷ 22 ∷ 6 ∷ 23 ∷ 7 ∷ 24 ∷ 8 ∷ 25 ∷ 9 ∷ 26 ∷ 10 ∷ 27 ∷ 11 ∷ []) $ w-homes-freed ! En $
           w-keep ! (2 ∷ 3 ∷ 0 ∷ 1 ∷ []) $ w-by ! (exits v-words len-words kept)
 
       ends : (i : ℕ) (v-words : List ℕ) → i ≡ hi → length v-words ≡ length words → (lo ≤ i) × Brought lo (i - lo) n us words v-words → (X : SProp 𝓤) → ent 𝓤 (⋆ 𝓤 H A (At i v-words)) (Wp 𝓤 H C Λ En body.turn-1 (afterTurn 𝓤 H X Left))
@@ -265,7 +270,8 @@ module _ {M : Type 1} (𝓤 : URA M) (H : Heap 𝓤) (A : Atoms 𝓤) (W : Given
         w-move ! (25 ∷ []) $ w-fsplit ! $ w-drop ! $ w-fsplit ! $ w-drop ! $ w-fsplit ! $ w-drop ! $ w-fsplit ! $ w-move ! (1 ∷ []) $ w-fsplit ! $ w-move ! (1 ∷ []) $ w-drop ! $
         w-move ! (26 ∷ []) $ w-split ! $ w-move ! (1 ∷ []) $ w-split ! $ w-move ! (1 ∷ []) $ w-drop ! $
         w-assigns ! (w-of-opd ! (w-load ! (w-from ! (w-stop !)) (w-look ! 24 refl))) (w-from ! (w-stop !)) (w-init ! 14 refl (uint-lawful 𝓤 H A W w64 .typed lo _ ((refl, fits-lo)) .0)) $
-        w-keep ! (3 ∷ 2 ∷ 1 ∷ 0 ∷ 26 ∷ 24 ∷ 22 ∷ 20 ∷ 18 ∷ 16 ∷ 14 ∷ 12 ∷ 10 ∷ 8 ∷ 6 ∷ 4 ∷ 27 ∷ 25 ∷ 23 ∷ 21 ∷ 19 ∷ 17 ∷ 15 ∷ 13 ∷ 11 ∷ 9 ∷ 7 ∷ 5 ∷ []) $ w-by ! (loops l0 l1 l2 l3 l4 l5 l6 l7 l8 l9 l10 l11)))))))))))))
+        w-move ! (27 ∷ 25 ∷ 23 ∷ 21 ∷ 19 ∷ 17 ∷ 15 ∷ 13 ∷ 11 ∷ 9 ∷ 7 ∷ 5 ∷ []) $ w-pack ! (‵ (fdies ty0 l0) ∷ ‵ (fdies ty1 l1) ∷ ‵ (fdies ty2 l2) ∷ ‵ (fdies ty3 l3) ∷ ‵ (fdies ty4 l4) ∷ ‵ (fdies ty5 l5) ∷ ‵ (fdies ty6 l6) ∷ ‵ (fdies ty7 l7) ∷ ‵ (fdies ty8 l8) ∷ ‵ (fdies ty9 l9) ∷ ‵ (fdies ty10 l10) ∷ ‵ (fdies ty11 l11) ∷ []) $
+        w-keep ! (4 ∷ 3 ∷ 2 ∷ 1 ∷ 16 ∷ 15 ∷ 14 ∷ 13 ∷ 12 ∷ 11 ∷ 10 ∷ 9 ∷ 8 ∷ 7 ∷ 6 ∷ 5 ∷ 0 ∷ []) $ w-by ! (loops l0 l1 l2 l3 l4 l5 l6 l7 l8 l9 l10 l11)))))))))))))
 
 module _ {M : Type 1} (𝓤 : URA M) (H : Heap 𝓤) (A : Atoms 𝓤) (W : Given 𝓤 H A) (mem : Memory → SProp 𝓤) (run : Routine → Fun 𝓤) where
   here-walks : (𝓣 : Tables 𝓤 H) (known-update-at : Triple 𝓤 (𝓣 .C #update·update-at) (C-update-at 𝓤 H A mem run)) (known-keep : Triple 𝓤 (𝓣 .C #turn·keep) (C-keep 𝓤 H A mem run)) → Walks 𝓤 H A here.ended stayed (WpFn 𝓤 H (𝓣 .C) (𝓣 .Λ) code.function) (here.clauses 𝓤 H A mem run)

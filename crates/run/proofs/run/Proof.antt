@@ -49,11 +49,10 @@ use sound.Loop.{loop-rule}
 use sound.WpLaws.{FmC, WpFn-mono, fmOf}
 use types.Kit.{ !, Given, Item, _$_, _∵_, _⊛_, anyQ, atRet, await as w-await, by as w-by, done, drop as w-drop, feqL as w-feqL, fjoin as w-fjoin, frame as w-frame, fsplit as w-fsplit, join as w-join, keep as w-keep, later, move as w-move, pick as w-pick, qed, raw, rewrite as w-rewrite, some, split as w-split, suffices as w-suffices, use1, use2, use3, ‵, ⋆}
 use types.Part.{agg as w-agg, look-in as w-look-in, sub as w-sub, whole as w-whole}
-use types.Run.{addr as w-addr, alloc0 as w-alloc0, alloc1 as w-alloc1, and-then as w-and-then, assigns as w-assigns, assigns-last as w-assigns-last, bin as w-bin, enter as w-enter, exec as w-exec, fld as w-fld, forget as w-forget, free0 as w-free0, free1 as w-free1, from as w-from, hop as w-hop, init as w-init, land as w-land, leaves-loop as w-leaves-loop, lit as w-lit, load as w-load, look as w-look, no-more as w-no-more, of-opd as w-of-opd, params1 as w-params1, pass0 as w-pass0, pass1 as w-pass1, returns as w-returns, stays as w-stays, stop as w-stop, store as w-store}
+use types.Run.{addr as w-addr, alloc0 as w-alloc0, alloc1 as w-alloc1, and-then as w-and-then, assigns as w-assigns, assigns-last as w-assigns-last, bin as w-bin, enter as w-enter, exec as w-exec, fld as w-fld, forget as w-forget, from as w-from, hop as w-hop, init as w-init, land as w-land, leaves-loop as w-leaves-loop, lit as w-lit, load as w-load, look as w-look, no-more as w-no-more, of-opd as w-of-opd, params1 as w-params1, pass0 as w-pass0, pass1 as w-pass1, returns as w-returns, stays as w-stays, stop as w-stop, store as w-store}
 use types.Tokens.{lft-end as w-lft-end, lft-new as w-lft-new}
 use Rattle.statement.specs.declared.Update.{Update}
 use Rattle.statement.proofs.Update as T-Update
-use Rattle.statement.proofs.Update.Laws as L-Update
 use Rattle.turn.proofs.name as f-name
 use Rattle.turn.proofs.name.Symbol as def-name
 use Rattle.turn.proofs.name.Symbol.{name as #turn·name}
@@ -74,6 +73,7 @@ use Rattle.turn.proofs.turn as f-turn
 use Rattle.turn.proofs.turn.Symbol as def-turn
 use Rattle.turn.proofs.turn.Symbol.{name as #turn·turn}
 use Rattle.turn.proofs.turn.Met as thm-turn
+use Rattle.update.proofs.Packs.{Packed, pack as w-pack, unpack as w-unpack, homes-freed as w-homes-freed}
 use Rattle.update.proofs.Again.{LentAgain, lends-again, comes-back}
 use Rattle.update.proofs.Shared.{LentShared, lends-shared, shared-back}
 use Rattle.run.proofs.run.Key.{name as #run·run}
@@ -301,9 +301,12 @@ module _ {M : Type 1} (𝓤 : URA M) (H : Heap 𝓤) (A : Atoms 𝓤) (W : Given
       abbrev En : Env 𝓤 H
       En = (ty0, l0) ∷ (ty1, l1) ∷ (ty2, l2) ∷ (ty3, l3) ∷ (ty4, l4) ∷ (ty5, l5) ∷ (ty6, l6) ∷ (ty7, l7) ∷ (ty8, l8) ∷ (ty9, l9) ∷ (ty10, l10) ∷ (ty11, l11) ∷ (ty12, l12) ∷ (ty13, l13) ∷ (ty14, l14) ∷ (ty15, l15) ∷ (ty16, l16) ∷ (ty17, l17) ∷ (ty18, l18) ∷ (ty19, l19) ∷ (ty20, l20) ∷ (ty21, l21) ∷ (ty22, l22) ∷ (ty23, l23) ∷ (ty24, l24) ∷ (ty25, l25) ∷ (ty26, l26) ∷ (ty27, l27) ∷ (ty28, l28) ∷ (ty29, l29) ∷ (ty30, l30) ∷ []
 
+      abbrev dying : List (Item 𝓤)
+      dying = ‵ (fdies ty0 l0) ∷ ‵ (fdies ty1 l1) ∷ ‵ (fdies ty2 l2) ∷ ‵ (fdies ty3 l3) ∷ ‵ (fdies ty4 l4) ∷ ‵ (fdies ty5 l5) ∷ ‵ (fdies ty6 l6) ∷ ‵ (fdies ty7 l7) ∷ ‵ (fdies ty8 l8) ∷ ‵ (fdies ty9 l9) ∷ ‵ (fdies ty10 l10) ∷ ‵ (fdies ty11 l11) ∷ ‵ (fdies ty12 l12) ∷ ‵ (fdies ty13 l13) ∷ ‵ (fdies ty14 l14) ∷ ‵ (fdies ty15 l15) ∷ ‵ (fdies ty16 l16) ∷ ‵ (fdies ty17 l17) ∷ ‵ (fdies ty18 l18) ∷ ‵ (fdies ty19 l19) ∷ ‵ (fdies ty20 l20) ∷ ‵ (fdies ty21 l21) ∷ ‵ (fdies ty22 l22) ∷ ‵ (fdies ty23 l23) ∷ ‵ (fdies ty24 l24) ∷ ‵ (fdies ty25 l25) ∷ ‵ (fdies ty26 l26) ∷ ‵ (fdies ty27 l27) ∷ ‵ (fdies ty28 l28) ∷ ‵ (fdies ty29 l29) ∷ ‵ (fdies ty30 l30) ∷ []
+
       -- the context where i turns are done
       abbrev At : (i : ℕ) (v-words : List ℕ) (v-floats : List Float) (v-values : List Float) (least : ℕ) (m-least : Val) → List (Item 𝓤)
-      At i v-words v-floats v-values least m-least = ‵ (ShrSlice (named 0) κ-firsts usize .own (ref-firsts γ-firsts firsts) (sliceVal (b-firsts, o-firsts) (length firsts) ∷ [])) ∷ ‵ (ShrSlice (named 1) κ-starts usize .own (ref-starts γ-starts starts) (sliceVal (b-starts, o-starts) (length starts) ∷ [])) ∷ ‵ (ShrSlice (named 2) κ-rows usize .own (ref-rows γ-rows rows) (sliceVal (b-rows, o-rows) (length rows) ∷ [])) ∷ ‵ (ShrSlice (named 3) κ-groups usize .own (ref-groups γ-groups groups) (sliceVal (b-groups, o-groups) (length groups) ∷ [])) ∷ ‵ (ShrSlice (named 4) κ-us T-Update.the-row .own (ref-us γ-us us) (sliceVal (b-us, o-us) (length us) ∷ [])) ∷ ‵ (MutSlice (named 5) κ-words usize .own (ref-words γ-words v-words) (sliceVal (b-words, o-words) (length words) ∷ [])) ∷ ‵ (MutSlice (named 6) κ-floats f64 .own (ref-floats γ-floats v-floats) (sliceVal (b-floats, o-floats) (length floats) ∷ [])) ∷ ‵ (MutSlice (named 7) κ-values f64 .own (ref-values γ-values v-values) (sliceVal (b-values, o-values) (length values) ∷ [])) ∷ ‵ (flft κ-firsts q-firsts) ∷ ‵ (flft κ-starts q-starts) ∷ ‵ (flft κ-rows q-rows) ∷ ‵ (flft κ-groups q-groups) ∷ ‵ (flft κ-us q-us) ∷ ‵ (flft κ-words q-words) ∷ ‵ (flft κ-floats q-floats) ∷ ‵ (flft κ-values q-values) ∷ ‵ (froom ty0 l0 0) ∷ ‵ (fat fullShare ty1 l1 0 (vint w64 steps)) ∷ ‵ (fat fullShare ty2 l2 0 (vint w64 ns)) ∷ ‵ (fat fullShare ty3 l3 0 (vint w64 n)) ∷ ‵ (fat fullShare ty4 l4 0 (vint w64 a)) ∷ ‵ (fat fullShare ty5 l5 0 (vint w64 entries)) ∷ ‵ (fat fullShare ty6 l6 0 s-firsts) ∷ ‵ (fat fullShare ty7 l7 0 s-starts) ∷ ‵ (fat fullShare ty8 l8 0 s-rows) ∷ ‵ (fat fullShare ty9 l9 0 s-groups) ∷ ‵ (fat fullShare ty10 l10 0 s-us) ∷ ‵ (fat fullShare ty11 l11 0 s-words) ∷ ‵ (fat fullShare ty12 l12 0 s-floats) ∷ ‵ (fat fullShare ty13 l13 0 s-values) ∷ ‵ (fat fullShare ty14 l14 0 m-least) ∷ ‵ (fat fullShare ty15 l15 0 (vint w64 i)) ∷ ‵ (froom ty16 l16 0) ∷ ‵ (froom ty17 l17 0) ∷ ‵ (froom ty18 l18 0) ∷ ‵ (froom ty19 l19 0) ∷ ‵ (froom ty20 l20 0) ∷ ‵ (froom ty21 l21 0) ∷ ‵ (froom ty22 l22 0) ∷ ‵ (froom ty23 l23 0) ∷ ‵ (froom ty24 l24 0) ∷ ‵ (froom ty25 l25 0) ∷ ‵ (froom ty26 l26 0) ∷ ‵ (froom ty27 l27 0) ∷ ‵ (froom ty28 l28 0) ∷ ‵ (froom ty29 l29 0) ∷ ‵ (froom ty30 l30 0) ∷ ‵ (fdies ty0 l0) ∷ ‵ (fdies ty1 l1) ∷ ‵ (fdies ty2 l2) ∷ ‵ (fdies ty3 l3) ∷ ‵ (fdies ty4 l4) ∷ ‵ (fdies ty5 l5) ∷ ‵ (fdies ty6 l6) ∷ ‵ (fdies ty7 l7) ∷ ‵ (fdies ty8 l8) ∷ ‵ (fdies ty9 l9) ∷ ‵ (fdies ty10 l10) ∷ ‵ (fdies ty11 l11) ∷ ‵ (fdies ty12 l12) ∷ ‵ (fdies ty13 l13) ∷ ‵ (fdies ty14 l14) ∷ ‵ (fdies ty15 l15) ∷ ‵ (fdies ty16 l16) ∷ ‵ (fdies ty17 l17) ∷ ‵ (fdies ty18 l18) ∷ ‵ (fdies ty19 l19) ∷ ‵ (fdies ty20 l20) ∷ ‵ (fdies ty21 l21) ∷ ‵ (fdies ty22 l22) ∷ ‵ (fdies ty23 l23) ∷ ‵ (fdies ty24 l24) ∷ ‵ (fdies ty25 l25) ∷ ‵ (fdies ty26 l26) ∷ ‵ (fdies ty27 l27) ∷ ‵ (fdies ty28 l28) ∷ ‵ (fdies ty29 l29) ∷ ‵ (fdies ty30 l30) ∷ []
+      At i v-words v-floats v-values least m-least = ‵ (ShrSlice (named 0) κ-firsts usize .own (ref-firsts γ-firsts firsts) (sliceVal (b-firsts, o-firsts) (length firsts) ∷ [])) ∷ ‵ (ShrSlice (named 1) κ-starts usize .own (ref-starts γ-starts starts) (sliceVal (b-starts, o-starts) (length starts) ∷ [])) ∷ ‵ (ShrSlice (named 2) κ-rows usize .own (ref-rows γ-rows rows) (sliceVal (b-rows, o-rows) (length rows) ∷ [])) ∷ ‵ (ShrSlice (named 3) κ-groups usize .own (ref-groups γ-groups groups) (sliceVal (b-groups, o-groups) (length groups) ∷ [])) ∷ ‵ (ShrSlice (named 4) κ-us T-Update.the-row .own (ref-us γ-us us) (sliceVal (b-us, o-us) (length us) ∷ [])) ∷ ‵ (MutSlice (named 5) κ-words usize .own (ref-words γ-words v-words) (sliceVal (b-words, o-words) (length words) ∷ [])) ∷ ‵ (MutSlice (named 6) κ-floats f64 .own (ref-floats γ-floats v-floats) (sliceVal (b-floats, o-floats) (length floats) ∷ [])) ∷ ‵ (MutSlice (named 7) κ-values f64 .own (ref-values γ-values v-values) (sliceVal (b-values, o-values) (length values) ∷ [])) ∷ ‵ (flft κ-firsts q-firsts) ∷ ‵ (flft κ-starts q-starts) ∷ ‵ (flft κ-rows q-rows) ∷ ‵ (flft κ-groups q-groups) ∷ ‵ (flft κ-us q-us) ∷ ‵ (flft κ-words q-words) ∷ ‵ (flft κ-floats q-floats) ∷ ‵ (flft κ-values q-values) ∷ ‵ (froom ty0 l0 0) ∷ ‵ (fat fullShare ty1 l1 0 (vint w64 steps)) ∷ ‵ (fat fullShare ty2 l2 0 (vint w64 ns)) ∷ ‵ (fat fullShare ty3 l3 0 (vint w64 n)) ∷ ‵ (fat fullShare ty4 l4 0 (vint w64 a)) ∷ ‵ (fat fullShare ty5 l5 0 (vint w64 entries)) ∷ ‵ (fat fullShare ty6 l6 0 s-firsts) ∷ ‵ (fat fullShare ty7 l7 0 s-starts) ∷ ‵ (fat fullShare ty8 l8 0 s-rows) ∷ ‵ (fat fullShare ty9 l9 0 s-groups) ∷ ‵ (fat fullShare ty10 l10 0 s-us) ∷ ‵ (fat fullShare ty11 l11 0 s-words) ∷ ‵ (fat fullShare ty12 l12 0 s-floats) ∷ ‵ (fat fullShare ty13 l13 0 s-values) ∷ ‵ (fat fullShare ty14 l14 0 m-least) ∷ ‵ (fat fullShare ty15 l15 0 (vint w64 i)) ∷ ‵ (froom ty16 l16 0) ∷ ‵ (froom ty17 l17 0) ∷ ‵ (froom ty18 l18 0) ∷ ‵ (froom ty19 l19 0) ∷ ‵ (froom ty20 l20 0) ∷ ‵ (froom ty21 l21 0) ∷ ‵ (froom ty22 l22 0) ∷ ‵ (froom ty23 l23 0) ∷ ‵ (froom ty24 l24 0) ∷ ‵ (froom ty25 l25 0) ∷ ‵ (froom ty26 l26 0) ∷ ‵ (froom ty27 l27 0) ∷ ‵ (froom ty28 l28 0) ∷ ‵ (froom ty29 l29 0) ∷ ‵ (froom ty30 l30 0) ∷ raw (Packed 𝓤 H A dying) ∷ []
 
       -- the invariant, where t turns are left
       abbrev Inv : ℕ → SProp 𝓤
@@ -331,7 +334,7 @@ module _ {M : Type 1} (𝓤 : URA M) (H : Heap 𝓤) (A : Atoms 𝓤) (W : Given
           w-nothing ! $ w-move ! (3 ∷ 0 ∷ []) $ w-join ! $
           use2 W (raw (C-name 𝓤 H A mem run .pre (((ν1-2 ∷ [], tt), (fullShare, tt), tt, (n, (i, (ref-words δ1-2 v-words, tt))), (vint w64 n ∷ [], (vint w64 i ∷ [], (sliceVal (b-words, o-words) (length v-words) ∷ [], tt)))), tt))) (asked1 i v-words v-floats v-values least m-least len-words len-floats len-values is-least kept small ν1-2 δ1-2) $
           w-calls-at ! fm (C-name 𝓤 H A mem run) known-name (((ν1-2 ∷ [], tt), (fullShare, tt), tt, (n, (i, (ref-words δ1-2 v-words, tt))), (vint w64 n ∷ [], (vint w64 i ∷ [], (sliceVal (b-words, o-words) (length v-words) ∷ [], tt)))), tt) (w-and-then ! (w-load ! (w-from ! (w-stop !)) (w-look ! 19 refl)) (w-and-then ! (w-load ! (w-from ! (w-stop !)) (w-look ! 31 refl)) (w-and-then ! (w-load ! (w-from ! (w-stop !)) (w-look ! 37 refl)) (w-no-more !)))) (λ r1.
-          use1 W (later (some (λ (u : ℕ). ((‵ (flft (ν1-2 ∷ []) fullShare) ⊛ ‵ ftrue) ⊛ ‵ (usize .own u (r1 ∷ []))) ⊛ raw (ensured 𝓤 H A f-name.ended (f-name.clauses 𝓤 H A mem run) (ν1-2 ∷ [], tt) (n, (i, (ref-words δ1-2 v-words, tt))) tt u)))) (id⊢ 𝓤 _) $ w-await ! tt $ w-pick ! (λ u1.
+          use1 W (later (some (λ (u′ : ℕ). ((‵ (flft (ν1-2 ∷ []) fullShare) ⊛ ‵ ftrue) ⊛ ‵ (usize .own u′ (r1 ∷ []))) ⊛ raw (ensured 𝓤 H A f-name.ended (f-name.clauses 𝓤 H A mem run) (ν1-2 ∷ [], tt) (n, (i, (ref-words δ1-2 v-words, tt))) tt u′)))) (id⊢ 𝓤 _) $ w-await ! tt $ w-pick ! (λ u1.
           w-split ! $ w-move ! (1 ∷ []) $ use1 W (some (λ (zs1 : Unit {0} × (Unit {0} × (Unit {0} × Unit {0}))). ‵ (lasts f-name.ended (ν1-2 ∷ [], tt) (n, (i, (ref-words δ1-2 v-words, tt))) zs1) ⊛ raw (fact 𝓤 (u1 ≡ getD (v-words) (namesAt n + i) 0)))) (id⊢ 𝓤 _) $ w-pick ! (λ zs1. w-split ! $ w-move ! (1 ∷ []) $ w-heard ! (u1 ≡ getD (v-words) (namesAt n + i) 0) (λ d1.
           w-fsplit ! $ w-drop ! $ w-fsplit ! $ w-drop ! $ w-fsplit ! $ w-drop ! $ w-drop ! $
           w-split ! $ w-move ! (1 ∷ []) $ w-peeks ! usize (Is usize) (shows 𝓤 H A usize) u1 (r1 ∷ []) (λ is1. w-land ! (w-from ! (w-stop !)) (w-init ! 33 refl (uint-lawful 𝓤 H A W w64 .typed u1 _ is1 .0)) $
@@ -343,7 +346,7 @@ module _ {M : Type 1} (𝓤 : URA M) (H : Heap 𝓤) (A : Atoms 𝓤) (W : Given
           w-nothing ! $ w-move ! (14 ∷ 0 ∷ []) $ w-join ! $
           use2 W (raw (C-group 𝓤 H A mem run .pre (((κ-groups, tt), (q-groups, tt), tt, (u1, (ref-groups γ-groups groups, tt)), (r1 ∷ [], (sliceVal (b-groups, o-groups) (length groups) ∷ [], tt))), tt))) (asked2 i v-words v-floats v-values least m-least len-words len-floats len-values is-least kept small u1 r1 is1 d1) $
           w-calls-at ! fm (C-group 𝓤 H A mem run) known-group (((κ-groups, tt), (q-groups, tt), tt, (u1, (ref-groups γ-groups groups, tt)), (r1 ∷ [], (sliceVal (b-groups, o-groups) (length groups) ∷ [], tt))), tt) (w-and-then ! (w-load ! (w-from ! (w-stop !)) (w-look ! 32 refl)) (w-and-then ! (w-load ! (w-from ! (w-stop !)) (w-look ! 25 refl)) (w-no-more !))) (λ r2.
-          use1 W (later (some (λ (u : ℕ). ((‵ (flft (κ-groups) q-groups) ⊛ ‵ ftrue) ⊛ ‵ (usize .own u (r2 ∷ []))) ⊛ raw (ensured 𝓤 H A f-group.ended (f-group.clauses 𝓤 H A mem run) (κ-groups, tt) (u1, (ref-groups γ-groups groups, tt)) tt u)))) (id⊢ 𝓤 _) $ w-await ! tt $ w-pick ! (λ u2.
+          use1 W (later (some (λ (u′ : ℕ). ((‵ (flft (κ-groups) q-groups) ⊛ ‵ ftrue) ⊛ ‵ (usize .own u′ (r2 ∷ []))) ⊛ raw (ensured 𝓤 H A f-group.ended (f-group.clauses 𝓤 H A mem run) (κ-groups, tt) (u1, (ref-groups γ-groups groups, tt)) tt u′)))) (id⊢ 𝓤 _) $ w-await ! tt $ w-pick ! (λ u2.
           w-split ! $ w-move ! (1 ∷ []) $ use1 W (some (λ (zs2 : Unit {0} × (Unit {0} × Unit {0})). ‵ (lasts f-group.ended (κ-groups, tt) (u1, (ref-groups γ-groups groups, tt)) zs2) ⊛ raw (fact 𝓤 (u2 ≡ getD (groups) u1 0)))) (id⊢ 𝓤 _) $ w-pick ! (λ zs2. w-split ! $ w-move ! (1 ∷ []) $ w-heard ! (u2 ≡ getD (groups) u1 0) (λ d2.
           w-fsplit ! $ w-drop ! $ w-fsplit ! $ w-drop ! $ w-drop ! $
           w-split ! $ w-move ! (1 ∷ []) $ w-peeks ! usize (Is usize) (shows 𝓤 H A usize) u2 (r2 ∷ []) (λ is2. w-land ! (w-from ! (w-stop !)) (w-init ! 34 refl (uint-lawful 𝓤 H A W w64 .typed u2 _ is2 .0)) $
@@ -353,7 +356,7 @@ module _ {M : Type 1} (𝓤 : URA M) (H : Heap 𝓤) (A : Atoms 𝓤) (W : Given
           w-nothing ! $ w-move ! (3 ∷ 0 ∷ []) $ w-join ! $
           use2 W (raw (C-group-end 𝓤 H A mem run .pre (((κ-groups, tt), (q-groups, tt), tt, (u1, (ref-groups γ-groups groups, tt)), (r1 ∷ [], (sliceVal (b-groups, o-groups) (length groups) ∷ [], tt))), tt))) (asked3 i v-words v-floats v-values least m-least len-words len-floats len-values is-least kept small u1 r1 is1 d1 u2 r2 is2 d2) $
           w-calls-at ! fm (C-group-end 𝓤 H A mem run) known-group-end (((κ-groups, tt), (q-groups, tt), tt, (u1, (ref-groups γ-groups groups, tt)), (r1 ∷ [], (sliceVal (b-groups, o-groups) (length groups) ∷ [], tt))), tt) (w-and-then ! (w-load ! (w-from ! (w-stop !)) (w-look ! 32 refl)) (w-and-then ! (w-load ! (w-from ! (w-stop !)) (w-look ! 25 refl)) (w-no-more !))) (λ r3.
-          use1 W (later (some (λ (u : ℕ). ((‵ (flft (κ-groups) q-groups) ⊛ ‵ ftrue) ⊛ ‵ (usize .own u (r3 ∷ []))) ⊛ raw (ensured 𝓤 H A f-group-end.ended (f-group-end.clauses 𝓤 H A mem run) (κ-groups, tt) (u1, (ref-groups γ-groups groups, tt)) tt u)))) (id⊢ 𝓤 _) $ w-await ! tt $ w-pick ! (λ u3.
+          use1 W (later (some (λ (u′ : ℕ). ((‵ (flft (κ-groups) q-groups) ⊛ ‵ ftrue) ⊛ ‵ (usize .own u′ (r3 ∷ []))) ⊛ raw (ensured 𝓤 H A f-group-end.ended (f-group-end.clauses 𝓤 H A mem run) (κ-groups, tt) (u1, (ref-groups γ-groups groups, tt)) tt u′)))) (id⊢ 𝓤 _) $ w-await ! tt $ w-pick ! (λ u3.
           w-split ! $ w-move ! (1 ∷ []) $ use1 W (some (λ (zs3 : Unit {0} × (Unit {0} × Unit {0})). ‵ (lasts f-group-end.ended (κ-groups, tt) (u1, (ref-groups γ-groups groups, tt)) zs3) ⊛ raw (fact 𝓤 (u3 ≡ getD (groups) (suc u1) 0)))) (id⊢ 𝓤 _) $ w-pick ! (λ zs3. w-split ! $ w-move ! (1 ∷ []) $ w-heard ! (u3 ≡ getD (groups) (suc u1) 0) (λ d3.
           w-fsplit ! $ w-drop ! $ w-fsplit ! $ w-drop ! $ w-drop ! $
           w-split ! $ w-move ! (1 ∷ []) $ w-peeks ! usize (Is usize) (shows 𝓤 H A usize) u3 (r3 ∷ []) (λ is3. w-land ! (w-from ! (w-stop !)) (w-init ! 35 refl (uint-lawful 𝓤 H A W w64 .typed u3 _ is3 .0)) $
@@ -366,7 +369,7 @@ module _ {M : Type 1} (𝓤 : URA M) (H : Heap 𝓤) (A : Atoms 𝓤) (W : Given
           w-nothing ! $ w-move ! (3 ∷ 0 ∷ []) $ w-join ! $ w-move ! (14 ∷ 0 ∷ []) $ w-join ! $
           use2 W (raw (C-fetch 𝓤 H A mem run .pre (((κ-us, (ν4-4 ∷ [], tt)), (q-us, (fullShare, tt)), tt, (u2, (u3, (n, (ref-us γ-us us, (ref-words δ4-4 v-words, tt))))), (r2 ∷ [], (r3 ∷ [], (vint w64 n ∷ [], (sliceVal (b-us, o-us) (length us) ∷ [], (sliceVal (b-words, o-words) (length v-words) ∷ [], tt)))))), tt))) (asked4 i v-words v-floats v-values least m-least len-words len-floats len-values is-least kept small u1 r1 is1 d1 u2 r2 is2 d2 u3 r3 is3 d3 ν4-4 δ4-4) $
           w-calls-at ! fm (C-fetch 𝓤 H A mem run) known-fetch (((κ-us, (ν4-4 ∷ [], tt)), (q-us, (fullShare, tt)), tt, (u2, (u3, (n, (ref-us γ-us us, (ref-words δ4-4 v-words, tt))))), (r2 ∷ [], (r3 ∷ [], (vint w64 n ∷ [], (sliceVal (b-us, o-us) (length us) ∷ [], (sliceVal (b-words, o-words) (length v-words) ∷ [], tt)))))), tt) (w-and-then ! (w-load ! (w-from ! (w-stop !)) (w-look ! 32 refl)) (w-and-then ! (w-load ! (w-from ! (w-stop !)) (w-look ! 33 refl)) (w-and-then ! (w-load ! (w-from ! (w-stop !)) (w-look ! 18 refl)) (w-and-then ! (w-load ! (w-from ! (w-stop !)) (w-look ! 25 refl)) (w-and-then ! (w-load ! (w-from ! (w-stop !)) (w-look ! 39 refl)) (w-no-more !)))))) (λ r4.
-          use1 W (later (some (λ (u : Unit {0}). ((‵ (flft (κ-us) q-us) ⊛ ‵ (flft (ν4-4 ∷ []) fullShare) ⊛ ‵ ftrue) ⊛ ‵ (Nothing .own u (r4 ∷ []))) ⊛ raw (ensured 𝓤 H A f-fetch.ended (f-fetch.clauses 𝓤 H A mem run) (κ-us, (ν4-4 ∷ [], tt)) (u2, (u3, (n, (ref-us γ-us us, (ref-words δ4-4 v-words, tt))))) tt u)))) (id⊢ 𝓤 _) $ w-await ! tt $ w-pick ! (λ u4.
+          use1 W (later (some (λ (u′ : Unit {0}). ((‵ (flft (κ-us) q-us) ⊛ ‵ (flft (ν4-4 ∷ []) fullShare) ⊛ ‵ ftrue) ⊛ ‵ (Nothing .own u′ (r4 ∷ []))) ⊛ raw (ensured 𝓤 H A f-fetch.ended (f-fetch.clauses 𝓤 H A mem run) (κ-us, (ν4-4 ∷ [], tt)) (u2, (u3, (n, (ref-us γ-us us, (ref-words δ4-4 v-words, tt))))) tt u′)))) (id⊢ 𝓤 _) $ w-await ! tt $ w-pick ! (λ u4.
           w-split ! $ w-move ! (1 ∷ []) $ use1 W (some (λ (zs4 : Unit {0} × (Unit {0} × (Unit {0} × (Unit {0} × (List ℕ × Unit {0}))))). ‵ (lasts f-fetch.ended (κ-us, (ν4-4 ∷ [], tt)) (u2, (u3, (n, (ref-us γ-us us, (ref-words δ4-4 v-words, tt))))) zs4) ⊛ raw (fact 𝓤 (Brought u2 (u3 - u2) n (us) (v-words) ((zs4 .1 .1 .1 .1 .0)))))) (id⊢ 𝓤 _) $ w-pick ! (λ zs4. w-split ! $ w-move ! (1 ∷ []) $ w-heard ! (Brought u2 (u3 - u2) n (us) (v-words) ((zs4 .1 .1 .1 .1 .0))) (λ d4.
           w-fsplit ! $ w-drop ! $ w-fsplit ! $ w-drop ! $ w-fsplit ! $ w-drop ! $ w-fsplit ! $ w-drop ! $ w-fsplit ! $ w-fsplit ! $ w-move ! (1 ∷ []) $ w-feqL ! (λ same4-words. w-move ! (1 ∷ []) $ w-drop ! $
           w-move ! (1 ∷ []) $ w-split ! $ w-move ! (1 ∷ []) $ w-peeks ! Nothing (Is Nothing) (shows 𝓤 H A Nothing) u4 (r4 ∷ []) (λ is4. w-land ! (w-from ! (w-stop !)) (w-init ! 39 refl (nothing-lawful 𝓤 H A W .typed u4 _ is4 .0)) $
@@ -390,7 +393,7 @@ module _ {M : Type 1} (𝓤 : URA M) (H : Heap 𝓤) (A : Atoms 𝓤) (W : Given
           w-nothing ! $ w-move ! (3 ∷ 0 ∷ []) $ w-join ! $ w-move ! (4 ∷ 0 ∷ []) $ w-join ! $ w-move ! (5 ∷ 0 ∷ []) $ w-join ! $ w-move ! (11 ∷ 0 ∷ []) $ w-join ! $ w-move ! (13 ∷ 0 ∷ []) $ w-join ! $ w-move ! (12 ∷ 0 ∷ []) $ w-join ! $ w-move ! (11 ∷ 0 ∷ []) $ w-join ! $
           use2 W (raw (C-turn 𝓤 H A mem run .pre (((κ-firsts, (κ-starts, (κ-rows, (κ-groups, (ν5-10 ∷ [], (ν5-11 ∷ [], (ν5-12 ∷ [], tt))))))), (q-firsts, (q-starts, (q-rows, (q-groups, (fullShare, (fullShare, (fullShare, tt))))))), tt, (u1, (least, (ns, (n, (a, (entries, (ref-firsts γ-firsts firsts, (ref-starts γ-starts starts, (ref-rows γ-rows rows, (ref-groups γ-groups groups, (ref-words δ5-10 (zs4 .1 .1 .1 .1 .0), (ref-floats δ5-11 v-floats, (ref-values δ5-12 v-values, tt))))))))))))), (r1 ∷ [], (m-least ∷ [], (vint w64 ns ∷ [], (vint w64 n ∷ [], (vint w64 a ∷ [], (vint w64 entries ∷ [], (sliceVal (b-firsts, o-firsts) (length firsts) ∷ [], (sliceVal (b-starts, o-starts) (length starts) ∷ [], (sliceVal (b-rows, o-rows) (length rows) ∷ [], (sliceVal (b-groups, o-groups) (length groups) ∷ [], (sliceVal (b-words, o-words) (length (zs4 .1 .1 .1 .1 .0)) ∷ [], (sliceVal (b-floats, o-floats) (length v-floats) ∷ [], (sliceVal (b-values, o-values) (length v-values) ∷ [], tt)))))))))))))), tt))) (asked5 i v-words v-floats v-values least m-least len-words len-floats len-values is-least kept small u1 r1 is1 d1 u2 r2 is2 d2 u3 r3 is3 d3 (zs4 .1 .1 .1 .1 .0) d4 same4-words ν5-10 δ5-10 ν5-11 δ5-11 ν5-12 δ5-12) $
           w-calls-at ! fm (C-turn 𝓤 H A mem run) known-turn (((κ-firsts, (κ-starts, (κ-rows, (κ-groups, (ν5-10 ∷ [], (ν5-11 ∷ [], (ν5-12 ∷ [], tt))))))), (q-firsts, (q-starts, (q-rows, (q-groups, (fullShare, (fullShare, (fullShare, tt))))))), tt, (u1, (least, (ns, (n, (a, (entries, (ref-firsts γ-firsts firsts, (ref-starts γ-starts starts, (ref-rows γ-rows rows, (ref-groups γ-groups groups, (ref-words δ5-10 (zs4 .1 .1 .1 .1 .0), (ref-floats δ5-11 v-floats, (ref-values δ5-12 v-values, tt))))))))))))), (r1 ∷ [], (m-least ∷ [], (vint w64 ns ∷ [], (vint w64 n ∷ [], (vint w64 a ∷ [], (vint w64 entries ∷ [], (sliceVal (b-firsts, o-firsts) (length firsts) ∷ [], (sliceVal (b-starts, o-starts) (length starts) ∷ [], (sliceVal (b-rows, o-rows) (length rows) ∷ [], (sliceVal (b-groups, o-groups) (length groups) ∷ [], (sliceVal (b-words, o-words) (length (zs4 .1 .1 .1 .1 .0)) ∷ [], (sliceVal (b-floats, o-floats) (length v-floats) ∷ [], (sliceVal (b-values, o-values) (length v-values) ∷ [], tt)))))))))))))), tt) (w-and-then ! (w-load ! (w-from ! (w-stop !)) (w-look ! 26 refl)) (w-and-then ! (w-load ! (w-from ! (w-stop !)) (w-look ! 24 refl)) (w-and-then ! (w-load ! (w-from ! (w-stop !)) (w-look ! 12 refl)) (w-and-then ! (w-load ! (w-from ! (w-stop !)) (w-look ! 13 refl)) (w-and-then ! (w-load ! (w-from ! (w-stop !)) (w-look ! 14 refl)) (w-and-then ! (w-load ! (w-from ! (w-stop !)) (w-look ! 15 refl)) (w-and-then ! (w-load ! (w-from ! (w-stop !)) (w-look ! 16 refl)) (w-and-then ! (w-load ! (w-from ! (w-stop !)) (w-look ! 17 refl)) (w-and-then ! (w-load ! (w-from ! (w-stop !)) (w-look ! 18 refl)) (w-and-then ! (w-load ! (w-from ! (w-stop !)) (w-look ! 19 refl)) (w-and-then ! (w-load ! (w-from ! (w-stop !)) (w-look ! 36 refl)) (w-and-then ! (w-load ! (w-from ! (w-stop !)) (w-look ! 38 refl)) (w-and-then ! (w-load ! (w-from ! (w-stop !)) (w-look ! 40 refl)) (w-no-more !)))))))))))))) (λ r5.
-          use1 W (later (some (λ (u : ℕ). ((‵ (flft (κ-firsts) q-firsts) ⊛ ‵ (flft (κ-starts) q-starts) ⊛ ‵ (flft (κ-rows) q-rows) ⊛ ‵ (flft (κ-groups) q-groups) ⊛ ‵ (flft (ν5-10 ∷ []) fullShare) ⊛ ‵ (flft (ν5-11 ∷ []) fullShare) ⊛ ‵ (flft (ν5-12 ∷ []) fullShare) ⊛ ‵ ftrue) ⊛ ‵ (usize .own u (r5 ∷ []))) ⊛ raw (ensured 𝓤 H A f-turn.ended (f-turn.clauses 𝓤 H A mem run) (κ-firsts, (κ-starts, (κ-rows, (κ-groups, (ν5-10 ∷ [], (ν5-11 ∷ [], (ν5-12 ∷ [], tt))))))) (u1, (least, (ns, (n, (a, (entries, (ref-firsts γ-firsts firsts, (ref-starts γ-starts starts, (ref-rows γ-rows rows, (ref-groups γ-groups groups, (ref-words δ5-10 (zs4 .1 .1 .1 .1 .0), (ref-floats δ5-11 v-floats, (ref-values δ5-12 v-values, tt))))))))))))) tt u)))) (id⊢ 𝓤 _) $ w-await ! tt $ w-pick ! (λ u5.
+          use1 W (later (some (λ (u′ : ℕ). ((‵ (flft (κ-firsts) q-firsts) ⊛ ‵ (flft (κ-starts) q-starts) ⊛ ‵ (flft (κ-rows) q-rows) ⊛ ‵ (flft (κ-groups) q-groups) ⊛ ‵ (flft (ν5-10 ∷ []) fullShare) ⊛ ‵ (flft (ν5-11 ∷ []) fullShare) ⊛ ‵ (flft (ν5-12 ∷ []) fullShare) ⊛ ‵ ftrue) ⊛ ‵ (usize .own u′ (r5 ∷ []))) ⊛ raw (ensured 𝓤 H A f-turn.ended (f-turn.clauses 𝓤 H A mem run) (κ-firsts, (κ-starts, (κ-rows, (κ-groups, (ν5-10 ∷ [], (ν5-11 ∷ [], (ν5-12 ∷ [], tt))))))) (u1, (least, (ns, (n, (a, (entries, (ref-firsts γ-firsts firsts, (ref-starts γ-starts starts, (ref-rows γ-rows rows, (ref-groups γ-groups groups, (ref-words δ5-10 (zs4 .1 .1 .1 .1 .0), (ref-floats δ5-11 v-floats, (ref-values δ5-12 v-values, tt))))))))))))) tt u′)))) (id⊢ 𝓤 _) $ w-await ! tt $ w-pick ! (λ u5.
           w-split ! $ w-move ! (1 ∷ []) $ use1 W (some (λ (zs5 : Unit {0} × (Unit {0} × (Unit {0} × (Unit {0} × (Unit {0} × (Unit {0} × (Unit {0} × (Unit {0} × (Unit {0} × (Unit {0} × (List ℕ × (List Float × (List Float × Unit {0}))))))))))))). ‵ (lasts f-turn.ended (κ-firsts, (κ-starts, (κ-rows, (κ-groups, (ν5-10 ∷ [], (ν5-11 ∷ [], (ν5-12 ∷ [], tt))))))) (u1, (least, (ns, (n, (a, (entries, (ref-firsts γ-firsts firsts, (ref-starts γ-starts starts, (ref-rows γ-rows rows, (ref-groups γ-groups groups, (ref-words δ5-10 (zs4 .1 .1 .1 .1 .0), (ref-floats δ5-11 v-floats, (ref-values δ5-12 v-values, tt))))))))))))) zs5) ⊛ raw (fact 𝓤 ((Turned (under n (firsts) (starts) (rows) (drop (parentsAt n) ((zs4 .1 .1 .1 .1 .0)))) (lowerValue (drop (startsAt n) ((zs4 .1 .1 .1 .1 .0))) (drop (rowsAt n) ((zs4 .1 .1 .1 .1 .0))) (take a (v-floats))) ns u1 a least u5 ((zs4 .1 .1 .1 .1 .0)) ((zs5 .1 .1 .1 .1 .1 .1 .1 .1 .1 .1 .0)) (v-floats) ((zs5 .1 .1 .1 .1 .1 .1 .1 .1 .1 .1 .1 .0)) (take entries (v-values)) (take entries ((zs5 .1 .1 .1 .1 .1 .1 .1 .1 .1 .1 .1 .1 .0)))) × (drop entries ((zs5 .1 .1 .1 .1 .1 .1 .1 .1 .1 .1 .1 .1 .0)) ≡ drop entries (v-values)))))) (id⊢ 𝓤 _) $ w-pick ! (λ zs5. w-split ! $ w-move ! (1 ∷ []) $ w-heard ! ((Turned (under n (firsts) (starts) (rows) (drop (parentsAt n) ((zs4 .1 .1 .1 .1 .0)))) (lowerValue (drop (startsAt n) ((zs4 .1 .1 .1 .1 .0))) (drop (rowsAt n) ((zs4 .1 .1 .1 .1 .0))) (take a (v-floats))) ns u1 a least u5 ((zs4 .1 .1 .1 .1 .0)) ((zs5 .1 .1 .1 .1 .1 .1 .1 .1 .1 .1 .0)) (v-floats) ((zs5 .1 .1 .1 .1 .1 .1 .1 .1 .1 .1 .1 .0)) (take entries (v-values)) (take entries ((zs5 .1 .1 .1 .1 .1 .1 .1 .1 .1 .1 .1 .1 .0)))) × (drop entries ((zs5 .1 .1 .1 .1 .1 .1 .1 .1 .1 .1 .1 .1 .0)) ≡ drop entries (v-values))) (λ d5.
           w-fsplit ! $ w-drop ! $ w-fsplit ! $ w-drop ! $ w-fsplit ! $ w-drop ! $ w-fsplit ! $ w-drop ! $ w-fsplit ! $ w-drop ! $ w-fsplit ! $ w-drop ! $ w-fsplit ! $ w-drop ! $ w-fsplit ! $ w-drop ! $ w-fsplit ! $ w-drop ! $ w-fsplit ! $ w-drop ! $ w-fsplit ! $ w-fsplit ! $ w-move ! (1 ∷ []) $ w-feqL ! (λ same5-words. w-move ! (1 ∷ []) $ w-fsplit ! $ w-fsplit ! $ w-move ! (1 ∷ []) $ w-feqL ! (λ same5-floats. w-move ! (1 ∷ []) $ w-fsplit ! $ w-fsplit ! $ w-move ! (1 ∷ []) $ w-feqL ! (λ same5-values. w-move ! (1 ∷ []) $ w-drop ! $
           w-move ! (3 ∷ []) $ w-split ! $ w-move ! (1 ∷ []) $ w-peeks ! usize (Is usize) (shows 𝓤 H A usize) u5 (r5 ∷ []) (λ is5. w-land ! (w-from ! (w-stop !)) (w-store ! 28 refl (uint-lawful 𝓤 H A W w64 .typed u5 _ is5 .0)) $
@@ -403,7 +406,7 @@ module _ {M : Type 1} (𝓤 : URA M) (H : Heap 𝓤) (A : Atoms 𝓤) (W : Given
           w-move ! (2 ∷ []) $ w-drop ! $
           w-forget ! 41 refl $ w-forget ! 42 refl $ w-forget ! 43 refl $ w-forget ! 44 refl $ w-forget ! 45 refl $ w-forget ! 46 refl $ w-assigns-last ! (w-bin ! (w-load ! (w-from ! (w-stop !)) (w-look ! 31 refl)) (w-lit ! tt) (record { fits = next-fits })) (w-from ! (w-stop !)) (w-store ! 31 refl (tt, record { fits = next-fits })) $
           w-forget ! 32 refl $ w-forget ! 33 refl $ w-forget ! 34 refl $ w-forget ! 35 refl $ w-rewrite ! 31 (λ (j : ℕ). ‵ (fat fullShare ty15 l15 0 (vint w64 j))) (add-one i) refl $
-          w-keep ! (13 ∷ 12 ∷ 11 ∷ 10 ∷ 15 ∷ 4 ∷ 2 ∷ 0 ∷ 9 ∷ 8 ∷ 7 ∷ 6 ∷ 14 ∷ 5 ∷ 3 ∷ 1 ∷ 16 ∷ 17 ∷ 18 ∷ 19 ∷ 20 ∷ 21 ∷ 22 ∷ 23 ∷ 24 ∷ 25 ∷ 26 ∷ 27 ∷ 28 ∷ 29 ∷ 30 ∷ 31 ∷ 32 ∷ 33 ∷ 34 ∷ 35 ∷ 36 ∷ 37 ∷ 38 ∷ 39 ∷ 40 ∷ 41 ∷ 42 ∷ 43 ∷ 44 ∷ 45 ∷ 46 ∷ 47 ∷ 48 ∷ 49 ∷ 50 ∷ 51 ∷ 52 ∷ 53 ∷ 54 ∷ 55 ∷ 56 ∷ 57 ∷ 58 ∷ 59 ∷ 60 ∷ 61 ∷ 62 ∷ 63 ∷ 64 ∷ 65 ∷ 66 ∷ 67 ∷ 68 ∷ 69 ∷ 70 ∷ 71 ∷ 72 ∷ 73 ∷ 74 ∷ 75 ∷ 76 ∷ 77 ∷ []) $ w-by ! (k (zs5 .1 .1 .1 .1 .1 .1 .1 .1 .1 .1 .0) (zs5 .1 .1 .1 .1 .1 .1 .1 .1 .1 .1 .1 .0) (zs5 .1 .1 .1 .1 .1 .1 .1 .1 .1 .1 .1 .1 .0) u5 r5 (same5-words ∙ same4-words ∙ len-words) (same5-floats ∙ len-floats) (same5-values ∙ len-values) (is5) (again i v-words v-floats v-values least m-least len-words len-floats len-values is-least kept small u1 r1 is1 d1 u2 r2 is2 d2 u3 r3 is3 d3 (zs4 .1 .1 .1 .1 .0) d4 same4-words u5 r5 is5 (zs5 .1 .1 .1 .1 .1 .1 .1 .1 .1 .1 .0) (zs5 .1 .1 .1 .1 .1 .1 .1 .1 .1 .1 .1 .0) (zs5 .1 .1 .1 .1 .1 .1 .1 .1 .1 .1 .1 .1 .0) d5 same5-words same5-floats same5-values)))))))))))))))))))))))))))))))))))))))))
+          w-keep ! (13 ∷ 12 ∷ 11 ∷ 10 ∷ 15 ∷ 4 ∷ 2 ∷ 0 ∷ 9 ∷ 8 ∷ 7 ∷ 6 ∷ 14 ∷ 5 ∷ 3 ∷ 1 ∷ 16 ∷ 17 ∷ 18 ∷ 19 ∷ 20 ∷ 21 ∷ 22 ∷ 23 ∷ 24 ∷ 25 ∷ 26 ∷ 27 ∷ 28 ∷ 29 ∷ 30 ∷ 31 ∷ 32 ∷ 33 ∷ 34 ∷ 35 ∷ 36 ∷ 37 ∷ 38 ∷ 39 ∷ 40 ∷ 41 ∷ 42 ∷ 43 ∷ 44 ∷ 45 ∷ 46 ∷ 47 ∷ []) $ w-by ! (k (zs5 .1 .1 .1 .1 .1 .1 .1 .1 .1 .1 .0) (zs5 .1 .1 .1 .1 .1 .1 .1 .1 .1 .1 .1 .0) (zs5 .1 .1 .1 .1 .1 .1 .1 .1 .1 .1 .1 .1 .0) u5 r5 (same5-words ∙ same4-words ∙ len-words) (same5-floats ∙ len-floats) (same5-values ∙ len-values) (is5) (again i v-words v-floats v-values least m-least len-words len-floats len-values is-least kept small u1 r1 is1 d1 u2 r2 is2 d2 u3 r3 is3 d3 (zs4 .1 .1 .1 .1 .0) d4 same4-words u5 r5 is5 (zs5 .1 .1 .1 .1 .1 .1 .1 .1 .1 .1 .0) (zs5 .1 .1 .1 .1 .1 .1 .1 .1 .1 .1 .1 .0) (zs5 .1 .1 .1 .1 .1 .1 .1 .1 .1 .1 .1 .1 .0) d5 same5-words same5-floats same5-values)))))))))))))))))))))))))))))))))))))))))
 
       left : (v-words : List ℕ) (v-floats : List Float) (v-values : List Float) (least : ℕ) (m-least : Val) (len-words : length v-words ≡ length words) (len-floats : length v-floats ≡ length floats) (len-values : length v-values ≡ length values) (is-least : Is usize least (m-least ∷ [])) (kept : Going steps ns n a entries firsts starts rows groups us words floats values v-words v-floats v-values least steps) (X : SProp 𝓤) → ent 𝓤 (⋆ 𝓤 H A (At steps v-words v-floats v-values least m-least)) (Wp 𝓤 H C Λ En body.turn-1 (afterTurn 𝓤 H X Left))
       unfolding afterTurn
@@ -414,7 +417,8 @@ module _ {M : Type 1} (𝓤 : URA M) (H : Heap 𝓤) (A : Atoms 𝓤) (W : Given
           w-leaves-loop ! (w-load ! (w-from ! (w-stop !)) (w-look ! 35 refl)) $ w-exec ! C Λ En body.t-4 (atRet En Post) $
           w-assigns ! (w-of-opd ! (w-load ! (w-from ! (w-stop !)) (w-look ! 30 refl))) (w-from ! (w-stop !)) (w-init ! 16 refl (uint-lawful 𝓤 H A W w64 .typed least _ is-least .0)) $
           w-returns ! (w-look ! 16 refl) $ w-forget ! 16 refl $ w-forget ! 17 refl $ w-forget ! 18 refl $ w-forget ! 19 refl $ w-forget ! 20 refl $ w-forget ! 21 refl $ w-forget ! 22 refl $ w-forget ! 23 refl $ w-forget ! 24 refl $ w-forget ! 25 refl $ w-forget ! 26 refl $ w-forget ! 27 refl $ w-forget ! 28 refl $ w-forget ! 29 refl $ w-forget ! 30 refl $ w-forget ! 31 refl $ w-forget ! 35 refl $
-          w-move ! (16 ∷ 47 ∷ []) $ w-free1 ! $ w-move ! (16 ∷ 46 ∷ []) $ w-free1 ! $ w-move ! (16 ∷ 45 ∷ []) $ w-free1 ! $ w-move ! (16 ∷ 44 ∷ []) $ w-free1 ! $ w-move ! (16 ∷ 43 ∷ []) $ w-free1 ! $ w-move ! (16 ∷ 42 ∷ []) $ w-free1 ! $ w-move ! (16 ∷ 41 ∷ []) $ w-free1 ! $ w-move ! (16 ∷ 40 ∷ []) $ w-free1 ! $ w-move ! (16 ∷ 39 ∷ []) $ w-free1 ! $ w-move ! (16 ∷ 38 ∷ []) $ w-free1 ! $ w-move ! (16 ∷ 37 ∷ []) $ w-free1 ! $ w-move ! (16 ∷ 36 ∷ []) $ w-free1 ! $ w-move ! (16 ∷ 35 ∷ []) $ w-free1 ! $ w-move ! (16 ∷ 34 ∷ []) $ w-free1 ! $ w-move ! (16 ∷ 33 ∷ []) $ w-free1 ! $ w-move ! (16 ∷ 32 ∷ []) $ w-free1 ! $ w-move ! (16 ∷ 31 ∷ []) $ w-free1 ! $ w-move ! (16 ∷ 30 ∷ []) $ w-free1 ! $ w-move ! (16 ∷ 29 ∷ []) $ w-free1 ! $ w-move ! (16 ∷ 28 ∷ []) $ w-free1 ! $ w-move ! (16 ∷ 27 ∷ []) $ w-free1 ! $ w-move ! (16 ∷ 26 ∷ []) $ w-free1 ! $ w-move ! (16 ∷ 25 ∷ []) $ w-free1 ! $ w-move ! (16 ∷ 24 ∷ []) $ w-free1 ! $ w-move ! (16 ∷ 23 ∷ []) $ w-free1 ! $ w-move ! (16 ∷ 22 ∷ []) $ w-free1 ! $ w-move ! (16 ∷ 21 ∷ []) $ w-free1 ! $ w-move ! (16 ∷ 20 ∷ []) $ w-free1 ! $ w-move ! (16 ∷ 19 ∷ []) $ w-free1 ! $ w-move ! (16 ∷ 18 ∷ []) $ w-free1 ! $ w-move ! (16 ∷ 17 ∷ []) $ w-free1 ! $ w-free0 ! $
+          w-move ! (47 ∷ []) $ w-unpack ! (‵ (fdies ty0 l0) ∷ ‵ (fdies ty1 l1) ∷ ‵ (fdies ty2 l2) ∷ ‵ (fdies ty3 l3) ∷ ‵ (fdies ty4 l4) ∷ ‵ (fdies ty5 l5) ∷ ‵ (fdies ty6 l6) ∷ ‵ (fdies ty7 l7) ∷ ‵ (fdies ty8 l8) ∷ ‵ (fdies ty9 l9) ∷ ‵ (fdies ty10 l10) ∷ ‵ (fdies ty11 l11) ∷ ‵ (fdies ty12 l12) ∷ ‵ (fdies ty13 l13) ∷ ‵ (fdies ty14 l14) ∷ ‵ (fdies ty15 l15) ∷ ‵ (fdies ty16 l16) ∷ ‵ (fdies ty17 l17) ∷ ‵ (fdies ty18 l18) ∷ ‵ (fdies ty19 l19) ∷ ‵ (fdies ty20 l20) ∷ ‵ (fdies ty21 l21) ∷ ‵ (fdies ty22 l22) ∷ ‵ (fdies ty23 l23) ∷ ‵ (fdies ty24 l24) ∷ ‵ (fdies ty25 l25) ∷ ‵ (fdies ty26 l26) ∷ ‵ (fdies ty27 l27) ∷ ‵ (fdies ty28 l28) ∷ ‵ (fdies ty29 l29) ∷ ‵ (fdies ty30 l30) ∷ []) $
+          w-move ! (47 ∷ 0 ∷ 48 ∷ 1 ∷ 49 ∷ 2 ∷ 50 ∷ 3 ∷ 51 ∷ 4 ∷ 52 ∷ 5 ∷ 53 ∷ 6 ∷ 54 ∷ 7 ∷ 55 ∷ 8 ∷ 56 ∷ 9 ∷ 57 ∷ 10 ∷ 58 ∷ 11 ∷ 59 ∷ 12 ∷ 60 ∷ 13 ∷ 61 ∷ 14 ∷ 62 ∷ 15 ∷ 63 ∷ 16 ∷ 64 ∷ 17 ∷ 65 ∷ 18 ∷ 66 ∷ 19 ∷ 67 ∷ 20 ∷ 68 ∷ 21 ∷ 69 ∷ 22 ∷ 70 ∷ 23 ∷ 71 ∷ 24 ∷ 72 ∷ 25 ∷ 73 ∷ 26 ∷ 74 ∷ 27 ∷ 75 ∷ 28 ∷ 76 ∷ 29 ∷ 77 ∷ 30 ∷ []) $ w-homes-freed ! En $
           w-keep ! (8 ∷ 9 ∷ 10 ∷ 11 ∷ 12 ∷ 13 ∷ 14 ∷ 15 ∷ 0 ∷ 1 ∷ 2 ∷ 3 ∷ 4 ∷ 5 ∷ 6 ∷ 7 ∷ []) $ w-by ! (exits v-words v-floats v-values least m-least len-words len-floats len-values is-least kept)
 
       ends : (i : ℕ) (v-words : List ℕ) (v-floats : List Float) (v-values : List Float) (least : ℕ) (m-least : Val) → i ≡ steps → length v-words ≡ length words → length v-floats ≡ length floats → length v-values ≡ length values → Is usize least (m-least ∷ []) → Going steps ns n a entries firsts starts rows groups us words floats values v-words v-floats v-values least i → (X : SProp 𝓤) → ent 𝓤 (⋆ 𝓤 H A (At i v-words v-floats v-values least m-least)) (Wp 𝓤 H C Λ En body.turn-1 (afterTurn 𝓤 H X Left))
@@ -448,7 +452,8 @@ module _ {M : Type 1} (𝓤 : URA M) (H : Heap 𝓤) (A : Atoms 𝓤) (W : Given
         w-move ! (70 ∷ []) $ w-split ! $ w-move ! (1 ∷ []) $ w-split ! $ w-move ! (1 ∷ []) $ w-split ! $ w-move ! (1 ∷ []) $ w-split ! $ w-move ! (1 ∷ []) $ w-split ! $ w-move ! (1 ∷ []) $ w-split ! $ w-move ! (1 ∷ []) $ w-split ! $ w-move ! (1 ∷ []) $ w-split ! $ w-move ! (1 ∷ []) $ w-drop ! $
         w-assigns ! (w-of-opd ! (w-load ! (w-from ! (w-stop !)) (w-look ! 70 refl))) (w-from ! (w-stop !)) (w-init ! 48 refl (uint-lawful 𝓤 H A W w64 .typed n _ ((refl, fits-n)) .0)) $
         w-assigns ! (w-of-opd ! (w-lit ! tt)) (w-from ! (w-stop !)) (w-init ! 46 refl (tt, record { fits = lit< tt })) $
-        w-keep ! (15 ∷ 14 ∷ 13 ∷ 12 ∷ 11 ∷ 10 ∷ 9 ∷ 8 ∷ 7 ∷ 6 ∷ 5 ∷ 4 ∷ 3 ∷ 2 ∷ 1 ∷ 0 ∷ 76 ∷ 74 ∷ 72 ∷ 70 ∷ 68 ∷ 66 ∷ 64 ∷ 62 ∷ 60 ∷ 58 ∷ 56 ∷ 54 ∷ 52 ∷ 50 ∷ 48 ∷ 46 ∷ 44 ∷ 42 ∷ 40 ∷ 38 ∷ 36 ∷ 34 ∷ 32 ∷ 30 ∷ 28 ∷ 26 ∷ 24 ∷ 22 ∷ 20 ∷ 18 ∷ 16 ∷ 77 ∷ 75 ∷ 73 ∷ 71 ∷ 69 ∷ 67 ∷ 65 ∷ 63 ∷ 61 ∷ 59 ∷ 57 ∷ 55 ∷ 53 ∷ 51 ∷ 49 ∷ 47 ∷ 45 ∷ 43 ∷ 41 ∷ 39 ∷ 37 ∷ 35 ∷ 33 ∷ 31 ∷ 29 ∷ 27 ∷ 25 ∷ 23 ∷ 21 ∷ 19 ∷ 17 ∷ []) $ w-by ! (loops l0 l1 l2 l3 l4 l5 l6 l7 l8 l9 l10 l11 l12 l13 l14 l15 l16 l17 l18 l19 l20 l21 l22 l23 l24 l25 l26 l27 l28 l29 l30))))))))))))))))))))))))))))))))
+        w-move ! (77 ∷ 75 ∷ 73 ∷ 71 ∷ 69 ∷ 67 ∷ 65 ∷ 63 ∷ 61 ∷ 59 ∷ 57 ∷ 55 ∷ 53 ∷ 51 ∷ 49 ∷ 47 ∷ 45 ∷ 43 ∷ 41 ∷ 39 ∷ 37 ∷ 35 ∷ 33 ∷ 31 ∷ 29 ∷ 27 ∷ 25 ∷ 23 ∷ 21 ∷ 19 ∷ 17 ∷ []) $ w-pack ! (‵ (fdies ty0 l0) ∷ ‵ (fdies ty1 l1) ∷ ‵ (fdies ty2 l2) ∷ ‵ (fdies ty3 l3) ∷ ‵ (fdies ty4 l4) ∷ ‵ (fdies ty5 l5) ∷ ‵ (fdies ty6 l6) ∷ ‵ (fdies ty7 l7) ∷ ‵ (fdies ty8 l8) ∷ ‵ (fdies ty9 l9) ∷ ‵ (fdies ty10 l10) ∷ ‵ (fdies ty11 l11) ∷ ‵ (fdies ty12 l12) ∷ ‵ (fdies ty13 l13) ∷ ‵ (fdies ty14 l14) ∷ ‵ (fdies ty15 l15) ∷ ‵ (fdies ty16 l16) ∷ ‵ (fdies ty17 l17) ∷ ‵ (fdies ty18 l18) ∷ ‵ (fdies ty19 l19) ∷ ‵ (fdies ty20 l20) ∷ ‵ (fdies ty21 l21) ∷ ‵ (fdies ty22 l22) ∷ ‵ (fdies ty23 l23) ∷ ‵ (fdies ty24 l24) ∷ ‵ (fdies ty25 l25) ∷ ‵ (fdies ty26 l26) ∷ ‵ (fdies ty27 l27) ∷ ‵ (fdies ty28 l28) ∷ ‵ (fdies ty29 l29) ∷ ‵ (fdies ty30 l30) ∷ []) $
+        w-keep ! (16 ∷ 15 ∷ 14 ∷ 13 ∷ 12 ∷ 11 ∷ 10 ∷ 9 ∷ 8 ∷ 7 ∷ 6 ∷ 5 ∷ 4 ∷ 3 ∷ 2 ∷ 1 ∷ 47 ∷ 46 ∷ 45 ∷ 44 ∷ 43 ∷ 42 ∷ 41 ∷ 40 ∷ 39 ∷ 38 ∷ 37 ∷ 36 ∷ 35 ∷ 34 ∷ 33 ∷ 32 ∷ 31 ∷ 30 ∷ 29 ∷ 28 ∷ 27 ∷ 26 ∷ 25 ∷ 24 ∷ 23 ∷ 22 ∷ 21 ∷ 20 ∷ 19 ∷ 18 ∷ 17 ∷ 0 ∷ []) $ w-by ! (loops l0 l1 l2 l3 l4 l5 l6 l7 l8 l9 l10 l11 l12 l13 l14 l15 l16 l17 l18 l19 l20 l21 l22 l23 l24 l25 l26 l27 l28 l29 l30))))))))))))))))))))))))))))))))
 
 module _ {M : Type 1} (𝓤 : URA M) (H : Heap 𝓤) (A : Atoms 𝓤) (W : Given 𝓤 H A) (mem : Memory → SProp 𝓤) (run : Routine → Fun 𝓤) where
   here-walks : (𝓣 : Tables 𝓤 H) (known-name : Triple 𝓤 (𝓣 .C #turn·name) (C-name 𝓤 H A mem run)) (known-group : Triple 𝓤 (𝓣 .C #turn·group) (C-group 𝓤 H A mem run)) (known-group-end : Triple 𝓤 (𝓣 .C #turn·group-end) (C-group-end 𝓤 H A mem run)) (known-fetch : Triple 𝓤 (𝓣 .C #run·fetch) (C-fetch 𝓤 H A mem run)) (known-turn : Triple 𝓤 (𝓣 .C #turn·turn) (C-turn 𝓤 H A mem run)) → Walks 𝓤 H A here.ended stayed (WpFn 𝓤 H (𝓣 .C) (𝓣 .Λ) code.function) (here.clauses 𝓤 H A mem run)
