@@ -19,7 +19,7 @@ use Rattle.updates.specs.Layout.{updatesAt, ownersAt, offsetsAt, parentsAt, nam
 use Rattle.step.specs.Ready.{inWords, from}
 use Rattle.step.proofs.Link.{listed-same}
 use Rattle.turn.specs.Turn.{count, under, Due, Is, Fetched, Turned}
-use Rattle.turn.specs.Run.{fresh, Ran, RunReady, RunLeft}
+use Rattle.turn.specs.Run.{fresh, RunReady, RunLeft}
 use Rattle.turn.proofs.Turns.{drop-same}
 use Rattle.run.specs.Fetch.{Brought}
 
