@@ -19,7 +19,7 @@ use Rattle.updates.specs.Layout.{updatesAt, ownersAt, offsetsAt, parentsAt, nam
 use Rattle.step.specs.Ready.{inWords, from}
 use Rattle.step.proofs.Link.{listed-same}
 use Rattle.turn.specs.Turn.{count, under, Due, Is, Fetched, Turned}
-use Rattle.turn.specs.Run.{fresh, Ran, RunReady, RunLeft}
+use Rattle.turn.specs.Run.{fresh, RunReady, RunLeft}
 use Rattle.turn.proofs.Turns.{drop-same}
 use Rattle.run.specs.Fetch.{Brought}
 
@@ -32,7 +32,7 @@ none S J (suc K) = rw (none S J K) (go (eqb (parentOf S K) J))
     go true = refl
     go false = refl
 
-module _ (steps ns n a entries : ℕ) (F St R groups : List ℕ) (us : List Update) (words₀ : List ℕ) (floats₀ values₀ : List Float) where
+module _ (steps ns n a entries : ℕ) (F St R words₀ : List ℕ) (floats₀ values₀ : List Float) where
   abbrev S : Shape
   S = under n F St R (drop (parentsAt n) words₀)
 
@@ -58,14 +58,24 @@ module _ (steps ns n a entries : ℕ) (F St R groups : List ℕ) (us : List Upda
     pub past : drop entries values ≡ drop entries values₀
 
 module _ {steps ns n a entries : ℕ} {F St R groups : List ℕ} {us : List Update} {words₀ : List ℕ} {floats₀ values₀ : List Float} (pre : 0 < steps → RunReady steps ns n a entries F St R groups us words₀ floats₀ values₀) where
-  pub going-none : Going steps ns n a entries F St R groups us words₀ floats₀ values₀ words₀ floats₀ values₀ n 0
+  -- the structure, A and the names, of the words and floats at the start
+  abbrev T : Shape
+  T = S steps ns n a entries F St R words₀ floats₀ values₀
+
+  abbrev B : ℕ → ℕ → Float
+  B = A steps ns n a entries F St R words₀ floats₀ values₀
+
+  abbrev ord : ℕ → ℕ
+  ord = names steps ns n a entries F St R words₀ floats₀ values₀
+
+  pub going-none : Going steps ns n a entries F St R words₀ floats₀ values₀ words₀ floats₀ values₀ n 0
   unfolding run list
   going-none =
       record {
         idle = λ e. (refl, refl);
         ran = λ h.
             record {
-              is = record { held = refl; low = refl; flags = λ J k. pre h .flags J k ∙ ap bit (sym (none (S steps ns n a entries F St R groups us words₀ floats₀ values₀) J ns)) };
+              is = record { held = refl; low = refl; flags = λ J k. pre h .flags J k ∙ ap bit (sym (none T J ns)) };
               rest = refl;
               matrix = refl;
               wlen = refl;
@@ -75,7 +85,7 @@ module _ {steps ns n a entries : ℕ} {F St R groups : List ℕ} {us : List Upda
         past = refl;
       }
 
-  module _ {words : List ℕ} {floats values : List Float} {least i : ℕ} (kept : Going steps ns n a entries F St R groups us words₀ floats₀ values₀ words floats values least i) where
+  module _ {words : List ℕ} {floats values : List Float} {least i : ℕ} (kept : Going steps ns n a entries F St R words₀ floats₀ values₀ words floats values least i) where
     pub ended : i ≡ steps → RunLeft steps ns n a entries F St R words₀ words floats₀ values₀ values least
     ended e =
         record {
@@ -88,7 +98,7 @@ module _ {steps ns n a entries : ℕ} {F St R groups : List ℕ} {us : List Upda
       ready : RunReady steps ns n a entries F St R groups us words₀ floats₀ values₀
       ready = pre (omega arith)
 
-      so : Sofar steps ns n a entries F St R groups us words₀ floats₀ values₀ words floats values least i
+      so : Sofar steps ns n a entries F St R words₀ floats₀ values₀ words floats values least i
       so = kept .ran (omega arith)
 
       t : Due n F St R ns a groups words₀ floats₀ entries
@@ -98,14 +108,14 @@ module _ {steps ns n a entries : ℕ} {F St R groups : List ℕ} {us : List Upda
       same : (x : ℕ) → ownersAt n ≤ x → drop x words ≡ drop x words₀
       same x h = drop-same words₀ words (ownersAt n) x h (so .rest)
 
-      name-is : getD words (namesAt n + i) 0 ≡ getD words₀ (namesAt n + i) 0
+      name-is : getD words (namesAt n + i) 0 ≡ ord i
       name-is = sym (getD-drop (namesAt n) words i 0) ∙ ap (λ l. getD l i 0) (same (namesAt n) (omega arith)) ∙ getD-drop (namesAt n) words₀ i 0
 
       pub name-asked : namesAt n + i < length words
-      name-asked = omega (arith, so .wlen, t .at (getD words₀ (namesAt n + i) 0) (ready .names i small) .inside, ready .most, t .few)
+      name-asked = omega (arith, so .wlen, t .at (ord i) (ready .names i small) .inside, ready .most, t .few)
 
       module _ {j : ℕ} (e : j ≡ getD words (namesAt n + i) 0) where
-        named : j ≡ getD words₀ (namesAt n + i) 0
+        named : j ≡ ord i
         named = e ∙ name-is
 
         known : j < ns
@@ -173,7 +183,7 @@ module _ {steps ns n a entries : ℕ} {F St R groups : List ℕ} {us : List Upda
             pub one-more : {r : ℕ} {words″ : List ℕ} {floats″ values″ : List Float} →
                 (Turned (under n F St R (drop (parentsAt n) words′)) (lowerValue (drop (startsAt n) words′) (drop (rowsAt n) words′) (take a floats)) ns j a least r words′ words″ floats floats″ (take entries values) (take entries values″)) × (drop entries values″ ≡ drop entries values) →
                 length words″ ≡ length words′ → length floats″ ≡ length floats → length values″ ≡ length values →
-                Going steps ns n a entries F St R groups us words₀ floats₀ values₀ words″ floats″ values″ r (suc i)
+                Going steps ns n a entries F St R words₀ floats₀ values₀ words″ floats″ values″ r (suc i)
             one-more {r} {words″} {floats″} {values″} q l k m =
                 record {
                   idle = λ z. absurd (omega arith);
@@ -189,15 +199,6 @@ module _ {steps ns n a entries : ℕ} {F St R groups : List ℕ} {us : List Upda
                   past = q .1 ∙ kept .past;
                 }
               where
-                T : Shape
-                T = under n F St R (drop (parentsAt n) words₀)
-
-                B : ℕ → ℕ → Float
-                B = lowerValue (drop (startsAt n) words₀) (drop (rowsAt n) words₀) (take a floats₀)
-
-                ord : ℕ → ℕ
-                ord p = getD words₀ (namesAt n + p) 0
-
                 at : Is T ns (run T B (fresh T (take entries values₀)) (list ord i)) (take entries values) least words′
                 at = record { held = so .is .held; low = so .is .low; flags = λ J h. flag-same J h ∙ so .is .flags J h }
 

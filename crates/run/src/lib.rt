@@ -1,6 +1,5 @@
 // The run of supernodes in order: one turn after the other, each with its updates copied among the words. A slice of updates is passed on, so
 // that the two are walked (tools/walk.py).
-ghost use mathlib.Core.Path.{_≡_};
 ghost use Prim.Native.Nat.{_-_, _≤_, _<_};
 ghost use lib.ListN.{length};
 ghost use Rattle.updates.specs.Layout.{ownersAt};

@@ -1,7 +1,7 @@
 // One turn of the run: the step of a supernode, or the word to its parent that it was skipped or has failed. And what the run reads and
 // keeps among the words (crates/updates/specs/Layout.antt).
 ghost use mathlib.Core.Path.{_≡_};
-ghost use Prim.Native.Nat.{ℕ, suc, _+_, _-_, _≤_, _<_, min};
+ghost use Prim.Native.Nat.{suc, _+_, _-_, _≤_, _<_, min};
 ghost use lib.ListN.{length, getD, set, take, drop};
 ghost use Rattle.laws.specs.Lent.{laid};
 ghost use Rattle.laws.specs.Lower.{lowerValue};

@@ -256,7 +256,7 @@ module _ {M : Type 1} (𝓤 : URA M) (H : Heap 𝓤) (A : Atoms 𝓤) (W : Given
   abbrev ty30 : Ty
   ty30 = sliceTy (tyRef erased mut (tyFloat binary64))
 
-  exits : (v-words : List ℕ) (v-floats : List Float) (v-values : List Float) (least : ℕ) (m-least : Val) (len-words : length v-words ≡ length words) (len-floats : length v-floats ≡ length floats) (len-values : length v-values ≡ length values) (is-least : Is usize least (m-least ∷ [])) (kept : Going steps ns n a entries firsts starts rows groups us words floats values v-words v-floats v-values least steps) → ent 𝓤 (⋆ 𝓤 H A (‵ (flft κ-firsts q-firsts) ∷ ‵ (flft κ-starts q-starts) ∷ ‵ (flft κ-rows q-rows) ∷ ‵ (flft κ-groups q-groups) ∷ ‵ (flft κ-us q-us) ∷ ‵ (flft κ-words q-words) ∷ ‵ (flft κ-floats q-floats) ∷ ‵ (flft κ-values q-values) ∷ ‵ (ShrSlice (named 0) κ-firsts usize .own (ref-firsts γ-firsts firsts) (sliceVal (b-firsts, o-firsts) (length firsts) ∷ [])) ∷ ‵ (ShrSlice (named 1) κ-starts usize .own (ref-starts γ-starts starts) (sliceVal (b-starts, o-starts) (length starts) ∷ [])) ∷ ‵ (ShrSlice (named 2) κ-rows usize .own (ref-rows γ-rows rows) (sliceVal (b-rows, o-rows) (length rows) ∷ [])) ∷ ‵ (ShrSlice (named 3) κ-groups usize .own (ref-groups γ-groups groups) (sliceVal (b-groups, o-groups) (length groups) ∷ [])) ∷ ‵ (ShrSlice (named 4) κ-us T-Update.the-row .own (ref-us γ-us us) (sliceVal (b-us, o-us) (length us) ∷ [])) ∷ ‵ (MutSlice (named 5) κ-words usize .own (ref-words γ-words v-words) (sliceVal (b-words, o-words) (length words) ∷ [])) ∷ ‵ (MutSlice (named 6) κ-floats f64 .own (ref-floats γ-floats v-floats) (sliceVal (b-floats, o-floats) (length floats) ∷ [])) ∷ ‵ (MutSlice (named 7) κ-values f64 .own (ref-values γ-values v-values) (sliceVal (b-values, o-values) (length values) ∷ [])) ∷ [])) (Post m-least)
+  exits : (v-words : List ℕ) (v-floats : List Float) (v-values : List Float) (least : ℕ) (m-least : Val) (len-words : length v-words ≡ length words) (len-floats : length v-floats ≡ length floats) (len-values : length v-values ≡ length values) (is-least : Is usize least (m-least ∷ [])) (kept : Going steps ns n a entries firsts starts rows words floats values v-words v-floats v-values least steps) → ent 𝓤 (⋆ 𝓤 H A (‵ (flft κ-firsts q-firsts) ∷ ‵ (flft κ-starts q-starts) ∷ ‵ (flft κ-rows q-rows) ∷ ‵ (flft κ-groups q-groups) ∷ ‵ (flft κ-us q-us) ∷ ‵ (flft κ-words q-words) ∷ ‵ (flft κ-floats q-floats) ∷ ‵ (flft κ-values q-values) ∷ ‵ (ShrSlice (named 0) κ-firsts usize .own (ref-firsts γ-firsts firsts) (sliceVal (b-firsts, o-firsts) (length firsts) ∷ [])) ∷ ‵ (ShrSlice (named 1) κ-starts usize .own (ref-starts γ-starts starts) (sliceVal (b-starts, o-starts) (length starts) ∷ [])) ∷ ‵ (ShrSlice (named 2) κ-rows usize .own (ref-rows γ-rows rows) (sliceVal (b-rows, o-rows) (length rows) ∷ [])) ∷ ‵ (ShrSlice (named 3) κ-groups usize .own (ref-groups γ-groups groups) (sliceVal (b-groups, o-groups) (length groups) ∷ [])) ∷ ‵ (ShrSlice (named 4) κ-us T-Update.the-row .own (ref-us γ-us us) (sliceVal (b-us, o-us) (length us) ∷ [])) ∷ ‵ (MutSlice (named 5) κ-words usize .own (ref-words γ-words v-words) (sliceVal (b-words, o-words) (length words) ∷ [])) ∷ ‵ (MutSlice (named 6) κ-floats f64 .own (ref-floats γ-floats v-floats) (sliceVal (b-floats, o-floats) (length floats) ∷ [])) ∷ ‵ (MutSlice (named 7) κ-values f64 .own (ref-values γ-values v-values) (sliceVal (b-values, o-values) (length values) ∷ [])) ∷ [])) (Post m-least)
   exits v-words v-floats v-values least m-least len-words len-floats len-values is-least kept =
       let told : RunLeft steps ns n a entries (firsts) (starts) (rows) (words) (v-words) (floats) (values) (v-values) least = ended pre kept refl in qed W (‵ (flft κ-firsts q-firsts) ∷ ‵ (flft κ-starts q-starts) ∷ ‵ (flft κ-rows q-rows) ∷ ‵ (flft κ-groups q-groups) ∷ ‵ (flft κ-us q-us) ∷ ‵ (flft κ-words q-words) ∷ ‵ (flft κ-floats q-floats) ∷ ‵ (flft κ-values q-values) ∷ ‵ (ShrSlice (named 0) κ-firsts usize .own (ref-firsts γ-firsts firsts) (sliceVal (b-firsts, o-firsts) (length firsts) ∷ [])) ∷ ‵ (ShrSlice (named 1) κ-starts usize .own (ref-starts γ-starts starts) (sliceVal (b-starts, o-starts) (length starts) ∷ [])) ∷ ‵ (ShrSlice (named 2) κ-rows usize .own (ref-rows γ-rows rows) (sliceVal (b-rows, o-rows) (length rows) ∷ [])) ∷ ‵ (ShrSlice (named 3) κ-groups usize .own (ref-groups γ-groups groups) (sliceVal (b-groups, o-groups) (length groups) ∷ [])) ∷ ‵ (ShrSlice (named 4) κ-us T-Update.the-row .own (ref-us γ-us us) (sliceVal (b-us, o-us) (length us) ∷ [])) ∷ ‵ (MutSlice (named 5) κ-words usize .own (ref-words γ-words v-words) (sliceVal (b-words, o-words) (length words) ∷ [])) ∷ ‵ (MutSlice (named 6) κ-floats f64 .own (ref-floats γ-floats v-floats) (sliceVal (b-floats, o-floats) (length floats) ∷ [])) ∷ ‵ (MutSlice (named 7) κ-values f64 .own (ref-values γ-values v-values) (sliceVal (b-values, o-values) (length values) ∷ [])) ∷ []) ∵
       w-suffices ! _ (ends-at 𝓤 H A here.ended stayed (here.clauses 𝓤 H A mem run) W bound m-least least (tt, (tt, (tt, (tt, (tt, (tt, (tt, (tt, (tt, (tt, (v-words, (v-floats, (v-values, tt))))))))))))) (tt, (tt, (tt, (tt, (tt, (tt, (tt, (tt, (tt, (tt, (len-words, (len-floats, (len-values, tt)))))))))))))) $ w-says ! told $
@@ -274,27 +274,27 @@ module _ {M : Type 1} (𝓤 : URA M) (H : Heap 𝓤) (A : Atoms 𝓤) (W : Given
     abbrev fm : FmC 𝓤 H (W .laws) (𝓣 .C)
     fm = fmOf 𝓤 H (W .laws) 𝓣
 
-    asked1 : (i : ℕ) (v-words : List ℕ) (v-floats : List Float) (v-values : List Float) (least : ℕ) (m-least : Val) (len-words : length v-words ≡ length words) (len-floats : length v-floats ≡ length floats) (len-values : length v-values ≡ length values) (is-least : Is usize least (m-least ∷ [])) (kept : Going steps ns n a entries firsts starts rows groups us words floats values v-words v-floats v-values least i) (small : i < steps) (ν1-2 : ℕ) (δ1-2 : GName) → ent 𝓤 (onEntry 𝓤 H A f-name.signature (ν1-2 ∷ [], tt) (fullShare, tt) (n, (i, (ref-words δ1-2 v-words, tt))) (vint w64 n ∷ [], (vint w64 i ∷ [], (sliceVal (b-words, o-words) (length v-words) ∷ [], tt)))) (C-name 𝓤 H A mem run .pre (((ν1-2 ∷ [], tt), (fullShare, tt), tt, (n, (i, (ref-words δ1-2 v-words, tt))), (vint w64 n ∷ [], (vint w64 i ∷ [], (sliceVal (b-words, o-words) (length v-words) ∷ [], tt)))), tt))
+    asked1 : (i : ℕ) (v-words : List ℕ) (v-floats : List Float) (v-values : List Float) (least : ℕ) (m-least : Val) (len-words : length v-words ≡ length words) (len-floats : length v-floats ≡ length floats) (len-values : length v-values ≡ length values) (is-least : Is usize least (m-least ∷ [])) (kept : Going steps ns n a entries firsts starts rows words floats values v-words v-floats v-values least i) (small : i < steps) (ν1-2 : ℕ) (δ1-2 : GName) → ent 𝓤 (onEntry 𝓤 H A f-name.signature (ν1-2 ∷ [], tt) (fullShare, tt) (n, (i, (ref-words δ1-2 v-words, tt))) (vint w64 n ∷ [], (vint w64 i ∷ [], (sliceVal (b-words, o-words) (length v-words) ∷ [], tt)))) (C-name 𝓤 H A mem run .pre (((ν1-2 ∷ [], tt), (fullShare, tt), tt, (n, (i, (ref-words δ1-2 v-words, tt))), (vint w64 n ∷ [], (vint w64 i ∷ [], (sliceVal (b-words, o-words) (length v-words) ∷ [], tt)))), tt))
     asked1 i v-words v-floats v-values least m-least len-words len-floats len-values is-least kept small ν1-2 δ1-2 =
         let need : namesAt n + i < length (v-words) = name-asked pre kept small in qed W ((‵ (flft (ν1-2 ∷ []) fullShare) ⊛ ‵ ftrue) ∷ ‵ (owns (usize ∷ usize ∷ ShrSlice (named 0) (ν1-2 ∷ []) usize ∷ []) (n, (i, (ref-words δ1-2 v-words, tt))) (vint w64 n ∷ [], (vint w64 i ∷ [], (sliceVal (b-words, o-words) (length v-words) ∷ [], tt)))) ∷ []) ∵ w-says ! need $ w-frame ! $ done !
 
-    asked2 : (i : ℕ) (v-words : List ℕ) (v-floats : List Float) (v-values : List Float) (least : ℕ) (m-least : Val) (len-words : length v-words ≡ length words) (len-floats : length v-floats ≡ length floats) (len-values : length v-values ≡ length values) (is-least : Is usize least (m-least ∷ [])) (kept : Going steps ns n a entries firsts starts rows groups us words floats values v-words v-floats v-values least i) (small : i < steps) (u1 : ℕ) (r1 : Val) (is1 : Is usize u1 (r1 ∷ [])) (d1 : u1 ≡ getD (v-words) (namesAt n + i) 0) → ent 𝓤 (onEntry 𝓤 H A f-group.signature (κ-groups, tt) (q-groups, tt) (u1, (ref-groups γ-groups groups, tt)) (r1 ∷ [], (sliceVal (b-groups, o-groups) (length groups) ∷ [], tt))) (C-group 𝓤 H A mem run .pre (((κ-groups, tt), (q-groups, tt), tt, (u1, (ref-groups γ-groups groups, tt)), (r1 ∷ [], (sliceVal (b-groups, o-groups) (length groups) ∷ [], tt))), tt))
+    asked2 : (i : ℕ) (v-words : List ℕ) (v-floats : List Float) (v-values : List Float) (least : ℕ) (m-least : Val) (len-words : length v-words ≡ length words) (len-floats : length v-floats ≡ length floats) (len-values : length v-values ≡ length values) (is-least : Is usize least (m-least ∷ [])) (kept : Going steps ns n a entries firsts starts rows words floats values v-words v-floats v-values least i) (small : i < steps) (u1 : ℕ) (r1 : Val) (is1 : Is usize u1 (r1 ∷ [])) (d1 : u1 ≡ getD (v-words) (namesAt n + i) 0) → ent 𝓤 (onEntry 𝓤 H A f-group.signature (κ-groups, tt) (q-groups, tt) (u1, (ref-groups γ-groups groups, tt)) (r1 ∷ [], (sliceVal (b-groups, o-groups) (length groups) ∷ [], tt))) (C-group 𝓤 H A mem run .pre (((κ-groups, tt), (q-groups, tt), tt, (u1, (ref-groups γ-groups groups, tt)), (r1 ∷ [], (sliceVal (b-groups, o-groups) (length groups) ∷ [], tt))), tt))
     asked2 i v-words v-floats v-values least m-least len-words len-floats len-values is-least kept small u1 r1 is1 d1 =
         let need : suc u1 < length (groups) = group-asked pre kept small d1 in qed W ((‵ (flft (κ-groups) q-groups) ⊛ ‵ ftrue) ∷ ‵ (owns (usize ∷ ShrSlice (named 0) (κ-groups) usize ∷ []) (u1, (ref-groups γ-groups groups, tt)) (r1 ∷ [], (sliceVal (b-groups, o-groups) (length groups) ∷ [], tt))) ∷ []) ∵ w-says ! need $ w-frame ! $ done !
 
-    asked3 : (i : ℕ) (v-words : List ℕ) (v-floats : List Float) (v-values : List Float) (least : ℕ) (m-least : Val) (len-words : length v-words ≡ length words) (len-floats : length v-floats ≡ length floats) (len-values : length v-values ≡ length values) (is-least : Is usize least (m-least ∷ [])) (kept : Going steps ns n a entries firsts starts rows groups us words floats values v-words v-floats v-values least i) (small : i < steps) (u1 : ℕ) (r1 : Val) (is1 : Is usize u1 (r1 ∷ [])) (d1 : u1 ≡ getD (v-words) (namesAt n + i) 0) (u2 : ℕ) (r2 : Val) (is2 : Is usize u2 (r2 ∷ [])) (d2 : u2 ≡ getD (groups) u1 0) → ent 𝓤 (onEntry 𝓤 H A f-group-end.signature (κ-groups, tt) (q-groups, tt) (u1, (ref-groups γ-groups groups, tt)) (r1 ∷ [], (sliceVal (b-groups, o-groups) (length groups) ∷ [], tt))) (C-group-end 𝓤 H A mem run .pre (((κ-groups, tt), (q-groups, tt), tt, (u1, (ref-groups γ-groups groups, tt)), (r1 ∷ [], (sliceVal (b-groups, o-groups) (length groups) ∷ [], tt))), tt))
+    asked3 : (i : ℕ) (v-words : List ℕ) (v-floats : List Float) (v-values : List Float) (least : ℕ) (m-least : Val) (len-words : length v-words ≡ length words) (len-floats : length v-floats ≡ length floats) (len-values : length v-values ≡ length values) (is-least : Is usize least (m-least ∷ [])) (kept : Going steps ns n a entries firsts starts rows words floats values v-words v-floats v-values least i) (small : i < steps) (u1 : ℕ) (r1 : Val) (is1 : Is usize u1 (r1 ∷ [])) (d1 : u1 ≡ getD (v-words) (namesAt n + i) 0) (u2 : ℕ) (r2 : Val) (is2 : Is usize u2 (r2 ∷ [])) (d2 : u2 ≡ getD (groups) u1 0) → ent 𝓤 (onEntry 𝓤 H A f-group-end.signature (κ-groups, tt) (q-groups, tt) (u1, (ref-groups γ-groups groups, tt)) (r1 ∷ [], (sliceVal (b-groups, o-groups) (length groups) ∷ [], tt))) (C-group-end 𝓤 H A mem run .pre (((κ-groups, tt), (q-groups, tt), tt, (u1, (ref-groups γ-groups groups, tt)), (r1 ∷ [], (sliceVal (b-groups, o-groups) (length groups) ∷ [], tt))), tt))
     asked3 i v-words v-floats v-values least m-least len-words len-floats len-values is-least kept small u1 r1 is1 d1 u2 r2 is2 d2 =
         let need : suc u1 < length (groups) = group-asked pre kept small d1 in qed W ((‵ (flft (κ-groups) q-groups) ⊛ ‵ ftrue) ∷ ‵ (owns (usize ∷ ShrSlice (named 0) (κ-groups) usize ∷ []) (u1, (ref-groups γ-groups groups, tt)) (r1 ∷ [], (sliceVal (b-groups, o-groups) (length groups) ∷ [], tt))) ∷ []) ∵ w-says ! need $ w-frame ! $ done !
 
-    asked4 : (i : ℕ) (v-words : List ℕ) (v-floats : List Float) (v-values : List Float) (least : ℕ) (m-least : Val) (len-words : length v-words ≡ length words) (len-floats : length v-floats ≡ length floats) (len-values : length v-values ≡ length values) (is-least : Is usize least (m-least ∷ [])) (kept : Going steps ns n a entries firsts starts rows groups us words floats values v-words v-floats v-values least i) (small : i < steps) (u1 : ℕ) (r1 : Val) (is1 : Is usize u1 (r1 ∷ [])) (d1 : u1 ≡ getD (v-words) (namesAt n + i) 0) (u2 : ℕ) (r2 : Val) (is2 : Is usize u2 (r2 ∷ [])) (d2 : u2 ≡ getD (groups) u1 0) (u3 : ℕ) (r3 : Val) (is3 : Is usize u3 (r3 ∷ [])) (d3 : u3 ≡ getD (groups) (suc u1) 0) (ν4-4 : ℕ) (δ4-4 : GName) → ent 𝓤 (onEntry 𝓤 H A f-fetch.signature (κ-us, (ν4-4 ∷ [], tt)) (q-us, (fullShare, tt)) (u2, (u3, (n, (ref-us γ-us us, (ref-words δ4-4 v-words, tt))))) (r2 ∷ [], (r3 ∷ [], (vint w64 n ∷ [], (sliceVal (b-us, o-us) (length us) ∷ [], (sliceVal (b-words, o-words) (length v-words) ∷ [], tt)))))) (C-fetch 𝓤 H A mem run .pre (((κ-us, (ν4-4 ∷ [], tt)), (q-us, (fullShare, tt)), tt, (u2, (u3, (n, (ref-us γ-us us, (ref-words δ4-4 v-words, tt))))), (r2 ∷ [], (r3 ∷ [], (vint w64 n ∷ [], (sliceVal (b-us, o-us) (length us) ∷ [], (sliceVal (b-words, o-words) (length v-words) ∷ [], tt)))))), tt))
+    asked4 : (i : ℕ) (v-words : List ℕ) (v-floats : List Float) (v-values : List Float) (least : ℕ) (m-least : Val) (len-words : length v-words ≡ length words) (len-floats : length v-floats ≡ length floats) (len-values : length v-values ≡ length values) (is-least : Is usize least (m-least ∷ [])) (kept : Going steps ns n a entries firsts starts rows words floats values v-words v-floats v-values least i) (small : i < steps) (u1 : ℕ) (r1 : Val) (is1 : Is usize u1 (r1 ∷ [])) (d1 : u1 ≡ getD (v-words) (namesAt n + i) 0) (u2 : ℕ) (r2 : Val) (is2 : Is usize u2 (r2 ∷ [])) (d2 : u2 ≡ getD (groups) u1 0) (u3 : ℕ) (r3 : Val) (is3 : Is usize u3 (r3 ∷ [])) (d3 : u3 ≡ getD (groups) (suc u1) 0) (ν4-4 : ℕ) (δ4-4 : GName) → ent 𝓤 (onEntry 𝓤 H A f-fetch.signature (κ-us, (ν4-4 ∷ [], tt)) (q-us, (fullShare, tt)) (u2, (u3, (n, (ref-us γ-us us, (ref-words δ4-4 v-words, tt))))) (r2 ∷ [], (r3 ∷ [], (vint w64 n ∷ [], (sliceVal (b-us, o-us) (length us) ∷ [], (sliceVal (b-words, o-words) (length v-words) ∷ [], tt)))))) (C-fetch 𝓤 H A mem run .pre (((κ-us, (ν4-4 ∷ [], tt)), (q-us, (fullShare, tt)), tt, (u2, (u3, (n, (ref-us γ-us us, (ref-words δ4-4 v-words, tt))))), (r2 ∷ [], (r3 ∷ [], (vint w64 n ∷ [], (sliceVal (b-us, o-us) (length us) ∷ [], (sliceVal (b-words, o-words) (length v-words) ∷ [], tt)))))), tt))
     asked4 i v-words v-floats v-values least m-least len-words len-floats len-values is-least kept small u1 r1 is1 d1 u2 r2 is2 d2 u3 r3 is3 d3 ν4-4 δ4-4 =
         let need : (u2 ≤ u3) × (u3 ≤ length (us)) × (u3 - u2 ≤ n) × (ownersAt n ≤ length (v-words)) = fetch-asked pre kept small d1 d2 d3 in qed W ((‵ (flft (κ-us) q-us) ⊛ ‵ (flft (ν4-4 ∷ []) fullShare) ⊛ ‵ ftrue) ∷ ‵ (owns (usize ∷ usize ∷ usize ∷ ShrSlice (named 0) (κ-us) T-Update.the-row ∷ MutSlice (named 1) (ν4-4 ∷ []) usize ∷ []) (u2, (u3, (n, (ref-us γ-us us, (ref-words δ4-4 v-words, tt))))) (r2 ∷ [], (r3 ∷ [], (vint w64 n ∷ [], (sliceVal (b-us, o-us) (length us) ∷ [], (sliceVal (b-words, o-words) (length v-words) ∷ [], tt)))))) ∷ []) ∵ w-says ! need $ w-frame ! $ done !
 
-    asked5 : (i : ℕ) (v-words : List ℕ) (v-floats : List Float) (v-values : List Float) (least : ℕ) (m-least : Val) (len-words : length v-words ≡ length words) (len-floats : length v-floats ≡ length floats) (len-values : length v-values ≡ length values) (is-least : Is usize least (m-least ∷ [])) (kept : Going steps ns n a entries firsts starts rows groups us words floats values v-words v-floats v-values least i) (small : i < steps) (u1 : ℕ) (r1 : Val) (is1 : Is usize u1 (r1 ∷ [])) (d1 : u1 ≡ getD (v-words) (namesAt n + i) 0) (u2 : ℕ) (r2 : Val) (is2 : Is usize u2 (r2 ∷ [])) (d2 : u2 ≡ getD (groups) u1 0) (u3 : ℕ) (r3 : Val) (is3 : Is usize u3 (r3 ∷ [])) (d3 : u3 ≡ getD (groups) (suc u1) 0) (c4-words : List ℕ) (d4 : Brought u2 (u3 - u2) n (us) (v-words) (c4-words)) (same4-words : length c4-words ≡ length v-words) (ν5-10 : ℕ) (δ5-10 : GName) (ν5-11 : ℕ) (δ5-11 : GName) (ν5-12 : ℕ) (δ5-12 : GName) → ent 𝓤 (onEntry 𝓤 H A f-turn.signature (κ-firsts, (κ-starts, (κ-rows, (κ-groups, (ν5-10 ∷ [], (ν5-11 ∷ [], (ν5-12 ∷ [], tt))))))) (q-firsts, (q-starts, (q-rows, (q-groups, (fullShare, (fullShare, (fullShare, tt))))))) (u1, (least, (ns, (n, (a, (entries, (ref-firsts γ-firsts firsts, (ref-starts γ-starts starts, (ref-rows γ-rows rows, (ref-groups γ-groups groups, (ref-words δ5-10 c4-words, (ref-floats δ5-11 v-floats, (ref-values δ5-12 v-values, tt))))))))))))) (r1 ∷ [], (m-least ∷ [], (vint w64 ns ∷ [], (vint w64 n ∷ [], (vint w64 a ∷ [], (vint w64 entries ∷ [], (sliceVal (b-firsts, o-firsts) (length firsts) ∷ [], (sliceVal (b-starts, o-starts) (length starts) ∷ [], (sliceVal (b-rows, o-rows) (length rows) ∷ [], (sliceVal (b-groups, o-groups) (length groups) ∷ [], (sliceVal (b-words, o-words) (length c4-words) ∷ [], (sliceVal (b-floats, o-floats) (length v-floats) ∷ [], (sliceVal (b-values, o-values) (length v-values) ∷ [], tt)))))))))))))) (C-turn 𝓤 H A mem run .pre (((κ-firsts, (κ-starts, (κ-rows, (κ-groups, (ν5-10 ∷ [], (ν5-11 ∷ [], (ν5-12 ∷ [], tt))))))), (q-firsts, (q-starts, (q-rows, (q-groups, (fullShare, (fullShare, (fullShare, tt))))))), tt, (u1, (least, (ns, (n, (a, (entries, (ref-firsts γ-firsts firsts, (ref-starts γ-starts starts, (ref-rows γ-rows rows, (ref-groups γ-groups groups, (ref-words δ5-10 c4-words, (ref-floats δ5-11 v-floats, (ref-values δ5-12 v-values, tt))))))))))))), (r1 ∷ [], (m-least ∷ [], (vint w64 ns ∷ [], (vint w64 n ∷ [], (vint w64 a ∷ [], (vint w64 entries ∷ [], (sliceVal (b-firsts, o-firsts) (length firsts) ∷ [], (sliceVal (b-starts, o-starts) (length starts) ∷ [], (sliceVal (b-rows, o-rows) (length rows) ∷ [], (sliceVal (b-groups, o-groups) (length groups) ∷ [], (sliceVal (b-words, o-words) (length c4-words) ∷ [], (sliceVal (b-floats, o-floats) (length v-floats) ∷ [], (sliceVal (b-values, o-values) (length v-values) ∷ [], tt)))))))))))))), tt))
+    asked5 : (i : ℕ) (v-words : List ℕ) (v-floats : List Float) (v-values : List Float) (least : ℕ) (m-least : Val) (len-words : length v-words ≡ length words) (len-floats : length v-floats ≡ length floats) (len-values : length v-values ≡ length values) (is-least : Is usize least (m-least ∷ [])) (kept : Going steps ns n a entries firsts starts rows words floats values v-words v-floats v-values least i) (small : i < steps) (u1 : ℕ) (r1 : Val) (is1 : Is usize u1 (r1 ∷ [])) (d1 : u1 ≡ getD (v-words) (namesAt n + i) 0) (u2 : ℕ) (r2 : Val) (is2 : Is usize u2 (r2 ∷ [])) (d2 : u2 ≡ getD (groups) u1 0) (u3 : ℕ) (r3 : Val) (is3 : Is usize u3 (r3 ∷ [])) (d3 : u3 ≡ getD (groups) (suc u1) 0) (c4-words : List ℕ) (d4 : Brought u2 (u3 - u2) n (us) (v-words) (c4-words)) (same4-words : length c4-words ≡ length v-words) (ν5-10 : ℕ) (δ5-10 : GName) (ν5-11 : ℕ) (δ5-11 : GName) (ν5-12 : ℕ) (δ5-12 : GName) → ent 𝓤 (onEntry 𝓤 H A f-turn.signature (κ-firsts, (κ-starts, (κ-rows, (κ-groups, (ν5-10 ∷ [], (ν5-11 ∷ [], (ν5-12 ∷ [], tt))))))) (q-firsts, (q-starts, (q-rows, (q-groups, (fullShare, (fullShare, (fullShare, tt))))))) (u1, (least, (ns, (n, (a, (entries, (ref-firsts γ-firsts firsts, (ref-starts γ-starts starts, (ref-rows γ-rows rows, (ref-groups γ-groups groups, (ref-words δ5-10 c4-words, (ref-floats δ5-11 v-floats, (ref-values δ5-12 v-values, tt))))))))))))) (r1 ∷ [], (m-least ∷ [], (vint w64 ns ∷ [], (vint w64 n ∷ [], (vint w64 a ∷ [], (vint w64 entries ∷ [], (sliceVal (b-firsts, o-firsts) (length firsts) ∷ [], (sliceVal (b-starts, o-starts) (length starts) ∷ [], (sliceVal (b-rows, o-rows) (length rows) ∷ [], (sliceVal (b-groups, o-groups) (length groups) ∷ [], (sliceVal (b-words, o-words) (length c4-words) ∷ [], (sliceVal (b-floats, o-floats) (length v-floats) ∷ [], (sliceVal (b-values, o-values) (length v-values) ∷ [], tt)))))))))))))) (C-turn 𝓤 H A mem run .pre (((κ-firsts, (κ-starts, (κ-rows, (κ-groups, (ν5-10 ∷ [], (ν5-11 ∷ [], (ν5-12 ∷ [], tt))))))), (q-firsts, (q-starts, (q-rows, (q-groups, (fullShare, (fullShare, (fullShare, tt))))))), tt, (u1, (least, (ns, (n, (a, (entries, (ref-firsts γ-firsts firsts, (ref-starts γ-starts starts, (ref-rows γ-rows rows, (ref-groups γ-groups groups, (ref-words δ5-10 c4-words, (ref-floats δ5-11 v-floats, (ref-values δ5-12 v-values, tt))))))))))))), (r1 ∷ [], (m-least ∷ [], (vint w64 ns ∷ [], (vint w64 n ∷ [], (vint w64 a ∷ [], (vint w64 entries ∷ [], (sliceVal (b-firsts, o-firsts) (length firsts) ∷ [], (sliceVal (b-starts, o-starts) (length starts) ∷ [], (sliceVal (b-rows, o-rows) (length rows) ∷ [], (sliceVal (b-groups, o-groups) (length groups) ∷ [], (sliceVal (b-words, o-words) (length c4-words) ∷ [], (sliceVal (b-floats, o-floats) (length v-floats) ∷ [], (sliceVal (b-values, o-values) (length v-values) ∷ [], tt)))))))))))))), tt))
     asked5 i v-words v-floats v-values least m-least len-words len-floats len-values is-least kept small u1 r1 is1 d1 u2 r2 is2 d2 u3 r3 is3 d3 c4-words d4 same4-words ν5-10 δ5-10 ν5-11 δ5-11 ν5-12 δ5-12 =
         let need : (Due n (firsts) (starts) (rows) ns a (groups) (c4-words) (v-floats) entries) × (u1 < ns) × (Fetched (laid n (firsts) (starts) (rows)) u1 (groups) (c4-words)) × (entries ≤ length (v-values)) = turn-asked pre kept small d1 d2 d3 d4 same4-words in qed W ((‵ (flft (κ-firsts) q-firsts) ⊛ ‵ (flft (κ-starts) q-starts) ⊛ ‵ (flft (κ-rows) q-rows) ⊛ ‵ (flft (κ-groups) q-groups) ⊛ ‵ (flft (ν5-10 ∷ []) fullShare) ⊛ ‵ (flft (ν5-11 ∷ []) fullShare) ⊛ ‵ (flft (ν5-12 ∷ []) fullShare) ⊛ ‵ ftrue) ∷ ‵ (owns (usize ∷ usize ∷ usize ∷ usize ∷ usize ∷ usize ∷ ShrSlice (named 0) (κ-firsts) usize ∷ ShrSlice (named 1) (κ-starts) usize ∷ ShrSlice (named 2) (κ-rows) usize ∷ ShrSlice (named 3) (κ-groups) usize ∷ MutSlice (named 4) (ν5-10 ∷ []) usize ∷ MutSlice (named 5) (ν5-11 ∷ []) f64 ∷ MutSlice (named 6) (ν5-12 ∷ []) f64 ∷ []) (u1, (least, (ns, (n, (a, (entries, (ref-firsts γ-firsts firsts, (ref-starts γ-starts starts, (ref-rows γ-rows rows, (ref-groups γ-groups groups, (ref-words δ5-10 c4-words, (ref-floats δ5-11 v-floats, (ref-values δ5-12 v-values, tt))))))))))))) (r1 ∷ [], (m-least ∷ [], (vint w64 ns ∷ [], (vint w64 n ∷ [], (vint w64 a ∷ [], (vint w64 entries ∷ [], (sliceVal (b-firsts, o-firsts) (length firsts) ∷ [], (sliceVal (b-starts, o-starts) (length starts) ∷ [], (sliceVal (b-rows, o-rows) (length rows) ∷ [], (sliceVal (b-groups, o-groups) (length groups) ∷ [], (sliceVal (b-words, o-words) (length c4-words) ∷ [], (sliceVal (b-floats, o-floats) (length v-floats) ∷ [], (sliceVal (b-values, o-values) (length v-values) ∷ [], tt)))))))))))))) ∷ []) ∵ w-says ! need $ w-frame ! $ done !
 
-    again : (i : ℕ) (v-words : List ℕ) (v-floats : List Float) (v-values : List Float) (least : ℕ) (m-least : Val) (len-words : length v-words ≡ length words) (len-floats : length v-floats ≡ length floats) (len-values : length v-values ≡ length values) (is-least : Is usize least (m-least ∷ [])) (kept : Going steps ns n a entries firsts starts rows groups us words floats values v-words v-floats v-values least i) (small : i < steps) (u1 : ℕ) (r1 : Val) (is1 : Is usize u1 (r1 ∷ [])) (d1 : u1 ≡ getD (v-words) (namesAt n + i) 0) (u2 : ℕ) (r2 : Val) (is2 : Is usize u2 (r2 ∷ [])) (d2 : u2 ≡ getD (groups) u1 0) (u3 : ℕ) (r3 : Val) (is3 : Is usize u3 (r3 ∷ [])) (d3 : u3 ≡ getD (groups) (suc u1) 0) (c4-words : List ℕ) (d4 : Brought u2 (u3 - u2) n (us) (v-words) (c4-words)) (same4-words : length c4-words ≡ length v-words) (u5 : ℕ) (r5 : Val) (is5 : Is usize u5 (r5 ∷ [])) (c5-words : List ℕ) (c5-floats : List Float) (c5-values : List Float) (d5 : (Turned (under n (firsts) (starts) (rows) (drop (parentsAt n) (c4-words))) (lowerValue (drop (startsAt n) (c4-words)) (drop (rowsAt n) (c4-words)) (take a (v-floats))) ns u1 a least u5 (c4-words) (c5-words) (v-floats) (c5-floats) (take entries (v-values)) (take entries (c5-values))) × (drop entries (c5-values) ≡ drop entries (v-values))) (same5-words : length c5-words ≡ length c4-words) (same5-floats : length c5-floats ≡ length v-floats) (same5-values : length c5-values ≡ length v-values) → Going steps ns n a entries firsts starts rows groups us words floats values c5-words c5-floats c5-values u5 (suc i)
+    again : (i : ℕ) (v-words : List ℕ) (v-floats : List Float) (v-values : List Float) (least : ℕ) (m-least : Val) (len-words : length v-words ≡ length words) (len-floats : length v-floats ≡ length floats) (len-values : length v-values ≡ length values) (is-least : Is usize least (m-least ∷ [])) (kept : Going steps ns n a entries firsts starts rows words floats values v-words v-floats v-values least i) (small : i < steps) (u1 : ℕ) (r1 : Val) (is1 : Is usize u1 (r1 ∷ [])) (d1 : u1 ≡ getD (v-words) (namesAt n + i) 0) (u2 : ℕ) (r2 : Val) (is2 : Is usize u2 (r2 ∷ [])) (d2 : u2 ≡ getD (groups) u1 0) (u3 : ℕ) (r3 : Val) (is3 : Is usize u3 (r3 ∷ [])) (d3 : u3 ≡ getD (groups) (suc u1) 0) (c4-words : List ℕ) (d4 : Brought u2 (u3 - u2) n (us) (v-words) (c4-words)) (same4-words : length c4-words ≡ length v-words) (u5 : ℕ) (r5 : Val) (is5 : Is usize u5 (r5 ∷ [])) (c5-words : List ℕ) (c5-floats : List Float) (c5-values : List Float) (d5 : (Turned (under n (firsts) (starts) (rows) (drop (parentsAt n) (c4-words))) (lowerValue (drop (startsAt n) (c4-words)) (drop (rowsAt n) (c4-words)) (take a (v-floats))) ns u1 a least u5 (c4-words) (c5-words) (v-floats) (c5-floats) (take entries (v-values)) (take entries (c5-values))) × (drop entries (c5-values) ≡ drop entries (v-values))) (same5-words : length c5-words ≡ length c4-words) (same5-floats : length c5-floats ≡ length v-floats) (same5-values : length c5-values ≡ length v-values) → Going steps ns n a entries firsts starts rows words floats values c5-words c5-floats c5-values u5 (suc i)
     again i v-words v-floats v-values least m-least len-words len-floats len-values is-least kept small u1 r1 is1 d1 u2 r2 is2 d2 u3 r3 is3 d3 c4-words d4 same4-words u5 r5 is5 c5-words c5-floats c5-values d5 same5-words same5-floats same5-values = one-more pre kept small d1 d2 d3 d4 same4-words d5 same5-words same5-floats same5-values
 
     module _ (l0 l1 l2 l3 l4 l5 l6 l7 l8 l9 l10 l11 l12 l13 l14 l15 l16 l17 l18 l19 l20 l21 l22 l23 l24 l25 l26 l27 l28 l29 l30 : ℕ) where
@@ -310,7 +310,7 @@ module _ {M : Type 1} (𝓤 : URA M) (H : Heap 𝓤) (A : Atoms 𝓤) (W : Given
 
       -- the invariant, where t turns are left
       abbrev Inv : ℕ → SProp 𝓤
-      Inv t = ex 𝓤 (λ (i : ℕ). ex 𝓤 (λ (v-words : List ℕ). ex 𝓤 (λ (v-floats : List Float). ex 𝓤 (λ (v-values : List Float). ex 𝓤 (λ (least : ℕ). ex 𝓤 (λ (m-least : Val). guard 𝓤 ((i + t ≡ steps) × (length v-words ≡ length words) × (length v-floats ≡ length floats) × (length v-values ≡ length values) × (Is usize least (m-least ∷ [])) × (Going steps ns n a entries firsts starts rows groups us words floats values v-words v-floats v-values least i)) (⋆ 𝓤 H A (At i v-words v-floats v-values least m-least))))))))
+      Inv t = ex 𝓤 (λ (i : ℕ). ex 𝓤 (λ (v-words : List ℕ). ex 𝓤 (λ (v-floats : List Float). ex 𝓤 (λ (v-values : List Float). ex 𝓤 (λ (least : ℕ). ex 𝓤 (λ (m-least : Val). guard 𝓤 ((i + t ≡ steps) × (length v-words ≡ length words) × (length v-floats ≡ length floats) × (length v-values ≡ length values) × (Is usize least (m-least ∷ [])) × (Going steps ns n a entries firsts starts rows words floats values v-words v-floats v-values least i)) (⋆ 𝓤 H A (At i v-words v-floats v-values least m-least))))))))
 
       abbrev Below : ℕ → SProp 𝓤
       Below t = ex 𝓤 (λ (t′ : ℕ). guard 𝓤 (t′ < t) (Inv t′))
@@ -318,7 +318,7 @@ module _ {M : Type 1} (𝓤 : URA M) (H : Heap 𝓤) (A : Atoms 𝓤) (W : Given
       abbrev Left : Out → SProp 𝓤
       Left = afterBlock 𝓤 H (afterSeq 𝓤 H (Wp 𝓤 H C Λ En body.t-4 (atReturn 𝓤 H En Post)) (atReturn 𝓤 H En Post))
 
-      more : (i : ℕ) (v-words : List ℕ) (v-floats : List Float) (v-values : List Float) (least : ℕ) (m-least : Val) (len-words : length v-words ≡ length words) (len-floats : length v-floats ≡ length floats) (len-values : length v-values ≡ length values) (is-least : Is usize least (m-least ∷ [])) (kept : Going steps ns n a entries firsts starts rows groups us words floats values v-words v-floats v-values least i) (small : i < steps) (X : SProp 𝓤) (k : (v-words′ : List ℕ) (v-floats′ : List Float) (v-values′ : List Float) (least′ : ℕ) (m-least′ : Val) → length v-words′ ≡ length words → length v-floats′ ≡ length floats → length v-values′ ≡ length values → Is usize least′ (m-least′ ∷ []) → Going steps ns n a entries firsts starts rows groups us words floats values v-words′ v-floats′ v-values′ least′ (suc i) → ent 𝓤 (⋆ 𝓤 H A (At (suc i) v-words′ v-floats′ v-values′ least′ m-least′)) X) → ent 𝓤 (⋆ 𝓤 H A (At i v-words v-floats v-values least m-least)) (Wp 𝓤 H C Λ En body.turn-1 (afterTurn 𝓤 H X Left))
+      more : (i : ℕ) (v-words : List ℕ) (v-floats : List Float) (v-values : List Float) (least : ℕ) (m-least : Val) (len-words : length v-words ≡ length words) (len-floats : length v-floats ≡ length floats) (len-values : length v-values ≡ length values) (is-least : Is usize least (m-least ∷ [])) (kept : Going steps ns n a entries firsts starts rows words floats values v-words v-floats v-values least i) (small : i < steps) (X : SProp 𝓤) (k : (v-words′ : List ℕ) (v-floats′ : List Float) (v-values′ : List Float) (least′ : ℕ) (m-least′ : Val) → length v-words′ ≡ length words → length v-floats′ ≡ length floats → length v-values′ ≡ length values → Is usize least′ (m-least′ ∷ []) → Going steps ns n a entries firsts starts rows words floats values v-words′ v-floats′ v-values′ least′ (suc i) → ent 𝓤 (⋆ 𝓤 H A (At (suc i) v-words′ v-floats′ v-values′ least′ m-least′)) X) → ent 𝓤 (⋆ 𝓤 H A (At i v-words v-floats v-values least m-least)) (Wp 𝓤 H C Λ En body.turn-1 (afterTurn 𝓤 H X Left))
       unfolding afterTurn
       more i v-words v-floats v-values least m-least len-words len-floats len-values is-least kept small X k =
           let fits-turn : i < 2 ^ 64 = omega arith in
@@ -408,7 +408,7 @@ module _ {M : Type 1} (𝓤 : URA M) (H : Heap 𝓤) (A : Atoms 𝓤) (W : Given
           w-forget ! 32 refl $ w-forget ! 33 refl $ w-forget ! 34 refl $ w-forget ! 35 refl $ w-rewrite ! 31 (λ (j : ℕ). ‵ (fat fullShare ty15 l15 0 (vint w64 j))) (add-one i) refl $
           w-keep ! (13 ∷ 12 ∷ 11 ∷ 10 ∷ 15 ∷ 4 ∷ 2 ∷ 0 ∷ 9 ∷ 8 ∷ 7 ∷ 6 ∷ 14 ∷ 5 ∷ 3 ∷ 1 ∷ 16 ∷ 17 ∷ 18 ∷ 19 ∷ 20 ∷ 21 ∷ 22 ∷ 23 ∷ 24 ∷ 25 ∷ 26 ∷ 27 ∷ 28 ∷ 29 ∷ 30 ∷ 31 ∷ 32 ∷ 33 ∷ 34 ∷ 35 ∷ 36 ∷ 37 ∷ 38 ∷ 39 ∷ 40 ∷ 41 ∷ 42 ∷ 43 ∷ 44 ∷ 45 ∷ 46 ∷ 47 ∷ []) $ w-by ! (k (zs5 .1 .1 .1 .1 .1 .1 .1 .1 .1 .1 .0) (zs5 .1 .1 .1 .1 .1 .1 .1 .1 .1 .1 .1 .0) (zs5 .1 .1 .1 .1 .1 .1 .1 .1 .1 .1 .1 .1 .0) u5 r5 (same5-words ∙ same4-words ∙ len-words) (same5-floats ∙ len-floats) (same5-values ∙ len-values) (is5) (again i v-words v-floats v-values least m-least len-words len-floats len-values is-least kept small u1 r1 is1 d1 u2 r2 is2 d2 u3 r3 is3 d3 (zs4 .1 .1 .1 .1 .0) d4 same4-words u5 r5 is5 (zs5 .1 .1 .1 .1 .1 .1 .1 .1 .1 .1 .0) (zs5 .1 .1 .1 .1 .1 .1 .1 .1 .1 .1 .1 .0) (zs5 .1 .1 .1 .1 .1 .1 .1 .1 .1 .1 .1 .1 .0) d5 same5-words same5-floats same5-values)))))))))))))))))))))))))))))))))))))))))
 
-      left : (v-words : List ℕ) (v-floats : List Float) (v-values : List Float) (least : ℕ) (m-least : Val) (len-words : length v-words ≡ length words) (len-floats : length v-floats ≡ length floats) (len-values : length v-values ≡ length values) (is-least : Is usize least (m-least ∷ [])) (kept : Going steps ns n a entries firsts starts rows groups us words floats values v-words v-floats v-values least steps) (X : SProp 𝓤) → ent 𝓤 (⋆ 𝓤 H A (At steps v-words v-floats v-values least m-least)) (Wp 𝓤 H C Λ En body.turn-1 (afterTurn 𝓤 H X Left))
+      left : (v-words : List ℕ) (v-floats : List Float) (v-values : List Float) (least : ℕ) (m-least : Val) (len-words : length v-words ≡ length words) (len-floats : length v-floats ≡ length floats) (len-values : length v-values ≡ length values) (is-least : Is usize least (m-least ∷ [])) (kept : Going steps ns n a entries firsts starts rows words floats values v-words v-floats v-values least steps) (X : SProp 𝓤) → ent 𝓤 (⋆ 𝓤 H A (At steps v-words v-floats v-values least m-least)) (Wp 𝓤 H C Λ En body.turn-1 (afterTurn 𝓤 H X Left))
       unfolding afterTurn
       left v-words v-floats v-values least m-least len-words len-floats len-values is-least kept X =
           qed W (At steps v-words v-floats v-values least m-least) ∵ w-exec ! C Λ En body.turn-1 (anyQ (afterTurn 𝓤 H X Left)) $
@@ -421,16 +421,16 @@ module _ {M : Type 1} (𝓤 : URA M) (H : Heap 𝓤) (A : Atoms 𝓤) (W : Given
           w-move ! (47 ∷ 0 ∷ 48 ∷ 1 ∷ 49 ∷ 2 ∷ 50 ∷ 3 ∷ 51 ∷ 4 ∷ 52 ∷ 5 ∷ 53 ∷ 6 ∷ 54 ∷ 7 ∷ 55 ∷ 8 ∷ 56 ∷ 9 ∷ 57 ∷ 10 ∷ 58 ∷ 11 ∷ 59 ∷ 12 ∷ 60 ∷ 13 ∷ 61 ∷ 14 ∷ 62 ∷ 15 ∷ 63 ∷ 16 ∷ 64 ∷ 17 ∷ 65 ∷ 18 ∷ 66 ∷ 19 ∷ 67 ∷ 20 ∷ 68 ∷ 21 ∷ 69 ∷ 22 ∷ 70 ∷ 23 ∷ 71 ∷ 24 ∷ 72 ∷ 25 ∷ 73 ∷ 26 ∷ 74 ∷ 27 ∷ 75 ∷ 28 ∷ 76 ∷ 29 ∷ 77 ∷ 30 ∷ []) $ w-homes-freed ! En $
           w-keep ! (8 ∷ 9 ∷ 10 ∷ 11 ∷ 12 ∷ 13 ∷ 14 ∷ 15 ∷ 0 ∷ 1 ∷ 2 ∷ 3 ∷ 4 ∷ 5 ∷ 6 ∷ 7 ∷ []) $ w-by ! (exits v-words v-floats v-values least m-least len-words len-floats len-values is-least kept)
 
-      ends : (i : ℕ) (v-words : List ℕ) (v-floats : List Float) (v-values : List Float) (least : ℕ) (m-least : Val) → i ≡ steps → length v-words ≡ length words → length v-floats ≡ length floats → length v-values ≡ length values → Is usize least (m-least ∷ []) → Going steps ns n a entries firsts starts rows groups us words floats values v-words v-floats v-values least i → (X : SProp 𝓤) → ent 𝓤 (⋆ 𝓤 H A (At i v-words v-floats v-values least m-least)) (Wp 𝓤 H C Λ En body.turn-1 (afterTurn 𝓤 H X Left))
-      ends i v-words v-floats v-values least m-least e len-words len-floats len-values is-least kept X = subst (λ (j : ℕ). Going steps ns n a entries firsts starts rows groups us words floats values v-words v-floats v-values least j → ent 𝓤 (⋆ 𝓤 H A (At j v-words v-floats v-values least m-least)) (Wp 𝓤 H C Λ En body.turn-1 (afterTurn 𝓤 H X Left))) (sym e) (λ kept′. left v-words v-floats v-values least m-least len-words len-floats len-values is-least kept′ X) kept
+      ends : (i : ℕ) (v-words : List ℕ) (v-floats : List Float) (v-values : List Float) (least : ℕ) (m-least : Val) → i ≡ steps → length v-words ≡ length words → length v-floats ≡ length floats → length v-values ≡ length values → Is usize least (m-least ∷ []) → Going steps ns n a entries firsts starts rows words floats values v-words v-floats v-values least i → (X : SProp 𝓤) → ent 𝓤 (⋆ 𝓤 H A (At i v-words v-floats v-values least m-least)) (Wp 𝓤 H C Λ En body.turn-1 (afterTurn 𝓤 H X Left))
+      ends i v-words v-floats v-values least m-least e len-words len-floats len-values is-least kept X = subst (λ (j : ℕ). Going steps ns n a entries firsts starts rows words floats values v-words v-floats v-values least j → ent 𝓤 (⋆ 𝓤 H A (At j v-words v-floats v-values least m-least)) (Wp 𝓤 H C Λ En body.turn-1 (afterTurn 𝓤 H X Left))) (sym e) (λ kept′. left v-words v-floats v-values least m-least len-words len-floats len-values is-least kept′ X) kept
 
-      below : (t i : ℕ) (v-words′ : List ℕ) (v-floats′ : List Float) (v-values′ : List Float) (least′ : ℕ) (m-least′ : Val) → suc i + t ≡ steps → length v-words′ ≡ length words → length v-floats′ ≡ length floats → length v-values′ ≡ length values → Is usize least′ (m-least′ ∷ []) → Going steps ns n a entries firsts starts rows groups us words floats values v-words′ v-floats′ v-values′ least′ (suc i) → ent 𝓤 (⋆ 𝓤 H A (At (suc i) v-words′ v-floats′ v-values′ least′ m-least′)) (Below (suc t))
+      below : (t i : ℕ) (v-words′ : List ℕ) (v-floats′ : List Float) (v-values′ : List Float) (least′ : ℕ) (m-least′ : Val) → suc i + t ≡ steps → length v-words′ ≡ length words → length v-floats′ ≡ length floats → length v-values′ ≡ length values → Is usize least′ (m-least′ ∷ []) → Going steps ns n a entries firsts starts rows words floats values v-words′ v-floats′ v-values′ least′ (suc i) → ent 𝓤 (⋆ 𝓤 H A (At (suc i) v-words′ v-floats′ v-values′ least′ m-least′)) (Below (suc t))
       below t i v-words′ v-floats′ v-values′ least′ m-least′ e len-words′ len-floats′ len-values′ is-least′ kept′ =
           via 𝓤 (Inv t)
-          (via 𝓤 (ex 𝓤 (λ (v-words : List ℕ). ex 𝓤 (λ (v-floats : List Float). ex 𝓤 (λ (v-values : List Float). ex 𝓤 (λ (least : ℕ). ex 𝓤 (λ (m-least : Val). guard 𝓤 (((suc i) + t ≡ steps) × (length v-words ≡ length words) × (length v-floats ≡ length floats) × (length v-values ≡ length values) × (Is usize least (m-least ∷ [])) × (Going steps ns n a entries firsts starts rows groups us words floats values v-words v-floats v-values least (suc i))) (⋆ 𝓤 H A (At (suc i) v-words v-floats v-values least m-least)))))))) (via 𝓤 (ex 𝓤 (λ (v-floats : List Float). ex 𝓤 (λ (v-values : List Float). ex 𝓤 (λ (least : ℕ). ex 𝓤 (λ (m-least : Val). guard 𝓤 (((suc i) + t ≡ steps) × (length v-words′ ≡ length words) × (length v-floats ≡ length floats) × (length v-values ≡ length values) × (Is usize least (m-least ∷ [])) × (Going steps ns n a entries firsts starts rows groups us words floats values v-words′ v-floats v-values least (suc i))) (⋆ 𝓤 H A (At (suc i) v-words′ v-floats v-values least m-least))))))) (via 𝓤 (ex 𝓤 (λ (v-values : List Float). ex 𝓤 (λ (least : ℕ). ex 𝓤 (λ (m-least : Val). guard 𝓤 (((suc i) + t ≡ steps) × (length v-words′ ≡ length words) × (length v-floats′ ≡ length floats) × (length v-values ≡ length values) × (Is usize least (m-least ∷ [])) × (Going steps ns n a entries firsts starts rows groups us words floats values v-words′ v-floats′ v-values least (suc i))) (⋆ 𝓤 H A (At (suc i) v-words′ v-floats′ v-values least m-least)))))) (via 𝓤 (ex 𝓤 (λ (least : ℕ). ex 𝓤 (λ (m-least : Val). guard 𝓤 (((suc i) + t ≡ steps) × (length v-words′ ≡ length words) × (length v-floats′ ≡ length floats) × (length v-values′ ≡ length values) × (Is usize least (m-least ∷ [])) × (Going steps ns n a entries firsts starts rows groups us words floats values v-words′ v-floats′ v-values′ least (suc i))) (⋆ 𝓤 H A (At (suc i) v-words′ v-floats′ v-values′ least m-least))))) (via 𝓤 (ex 𝓤 (λ (m-least : Val). guard 𝓤 (((suc i) + t ≡ steps) × (length v-words′ ≡ length words) × (length v-floats′ ≡ length floats) × (length v-values′ ≡ length values) × (Is usize least′ (m-least ∷ [])) × (Going steps ns n a entries firsts starts rows groups us words floats values v-words′ v-floats′ v-values′ least′ (suc i))) (⋆ 𝓤 H A (At (suc i) v-words′ v-floats′ v-values′ least′ m-least)))) (via 𝓤 (guard 𝓤 (((suc i) + t ≡ steps) × (length v-words′ ≡ length words) × (length v-floats′ ≡ length floats) × (length v-values′ ≡ length values) × (Is usize least′ (m-least′ ∷ [])) × (Going steps ns n a entries firsts starts rows groups us words floats values v-words′ v-floats′ v-values′ least′ (suc i))) (⋆ 𝓤 H A (At (suc i) v-words′ v-floats′ v-values′ least′ m-least′))) (guardI 𝓤 (((suc i) + t ≡ steps) × (length v-words′ ≡ length words) × (length v-floats′ ≡ length floats) × (length v-values′ ≡ length values) × (Is usize least′ (m-least′ ∷ [])) × (Going steps ns n a entries firsts starts rows groups us words floats values v-words′ v-floats′ v-values′ least′ (suc i))) (⋆ 𝓤 H A (At (suc i) v-words′ v-floats′ v-values′ least′ m-least′)) (e, len-words′, len-floats′, len-values′, is-least′, kept′)) (exI 𝓤 (λ (m-least : Val). guard 𝓤 (((suc i) + t ≡ steps) × (length v-words′ ≡ length words) × (length v-floats′ ≡ length floats) × (length v-values′ ≡ length values) × (Is usize least′ (m-least ∷ [])) × (Going steps ns n a entries firsts starts rows groups us words floats values v-words′ v-floats′ v-values′ least′ (suc i))) (⋆ 𝓤 H A (At (suc i) v-words′ v-floats′ v-values′ least′ m-least))) m-least′)) (exI 𝓤 (λ (least : ℕ). ex 𝓤 (λ (m-least : Val). guard 𝓤 (((suc i) + t ≡ steps) × (length v-words′ ≡ length words) × (length v-floats′ ≡ length floats) × (length v-values′ ≡ length values) × (Is usize least (m-least ∷ [])) × (Going steps ns n a entries firsts starts rows groups us words floats values v-words′ v-floats′ v-values′ least (suc i))) (⋆ 𝓤 H A (At (suc i) v-words′ v-floats′ v-values′ least m-least)))) least′)) (exI 𝓤 (λ (v-values : List Float). ex 𝓤 (λ (least : ℕ). ex 𝓤 (λ (m-least : Val). guard 𝓤 (((suc i) + t ≡ steps) × (length v-words′ ≡ length words) × (length v-floats′ ≡ length floats) × (length v-values ≡ length values) × (Is usize least (m-least ∷ [])) × (Going steps ns n a entries firsts starts rows groups us words floats values v-words′ v-floats′ v-values least (suc i))) (⋆ 𝓤 H A (At (suc i) v-words′ v-floats′ v-values least m-least))))) v-values′)) (exI 𝓤 (λ (v-floats : List Float). ex 𝓤 (λ (v-values : List Float). ex 𝓤 (λ (least : ℕ). ex 𝓤 (λ (m-least : Val). guard 𝓤 (((suc i) + t ≡ steps) × (length v-words′ ≡ length words) × (length v-floats ≡ length floats) × (length v-values ≡ length values) × (Is usize least (m-least ∷ [])) × (Going steps ns n a entries firsts starts rows groups us words floats values v-words′ v-floats v-values least (suc i))) (⋆ 𝓤 H A (At (suc i) v-words′ v-floats v-values least m-least)))))) v-floats′)) (exI 𝓤 (λ (v-words : List ℕ). ex 𝓤 (λ (v-floats : List Float). ex 𝓤 (λ (v-values : List Float). ex 𝓤 (λ (least : ℕ). ex 𝓤 (λ (m-least : Val). guard 𝓤 (((suc i) + t ≡ steps) × (length v-words ≡ length words) × (length v-floats ≡ length floats) × (length v-values ≡ length values) × (Is usize least (m-least ∷ [])) × (Going steps ns n a entries firsts starts rows groups us words floats values v-words v-floats v-values least (suc i))) (⋆ 𝓤 H A (At (suc i) v-words v-floats v-values least m-least))))))) v-words′)) (exI 𝓤 (λ (i : ℕ). ex 𝓤 (λ (v-words : List ℕ). ex 𝓤 (λ (v-floats : List Float). ex 𝓤 (λ (v-values : List Float). ex 𝓤 (λ (least : ℕ). ex 𝓤 (λ (m-least : Val). guard 𝓤 ((i + t ≡ steps) × (length v-words ≡ length words) × (length v-floats ≡ length floats) × (length v-values ≡ length values) × (Is usize least (m-least ∷ [])) × (Going steps ns n a entries firsts starts rows groups us words floats values v-words v-floats v-values least i)) (⋆ 𝓤 H A (At i v-words v-floats v-values least m-least)))))))) (suc i)))
+          (via 𝓤 (ex 𝓤 (λ (v-words : List ℕ). ex 𝓤 (λ (v-floats : List Float). ex 𝓤 (λ (v-values : List Float). ex 𝓤 (λ (least : ℕ). ex 𝓤 (λ (m-least : Val). guard 𝓤 (((suc i) + t ≡ steps) × (length v-words ≡ length words) × (length v-floats ≡ length floats) × (length v-values ≡ length values) × (Is usize least (m-least ∷ [])) × (Going steps ns n a entries firsts starts rows words floats values v-words v-floats v-values least (suc i))) (⋆ 𝓤 H A (At (suc i) v-words v-floats v-values least m-least)))))))) (via 𝓤 (ex 𝓤 (λ (v-floats : List Float). ex 𝓤 (λ (v-values : List Float). ex 𝓤 (λ (least : ℕ). ex 𝓤 (λ (m-least : Val). guard 𝓤 (((suc i) + t ≡ steps) × (length v-words′ ≡ length words) × (length v-floats ≡ length floats) × (length v-values ≡ length values) × (Is usize least (m-least ∷ [])) × (Going steps ns n a entries firsts starts rows words floats values v-words′ v-floats v-values least (suc i))) (⋆ 𝓤 H A (At (suc i) v-words′ v-floats v-values least m-least))))))) (via 𝓤 (ex 𝓤 (λ (v-values : List Float). ex 𝓤 (λ (least : ℕ). ex 𝓤 (λ (m-least : Val). guard 𝓤 (((suc i) + t ≡ steps) × (length v-words′ ≡ length words) × (length v-floats′ ≡ length floats) × (length v-values ≡ length values) × (Is usize least (m-least ∷ [])) × (Going steps ns n a entries firsts starts rows words floats values v-words′ v-floats′ v-values least (suc i))) (⋆ 𝓤 H A (At (suc i) v-words′ v-floats′ v-values least m-least)))))) (via 𝓤 (ex 𝓤 (λ (least : ℕ). ex 𝓤 (λ (m-least : Val). guard 𝓤 (((suc i) + t ≡ steps) × (length v-words′ ≡ length words) × (length v-floats′ ≡ length floats) × (length v-values′ ≡ length values) × (Is usize least (m-least ∷ [])) × (Going steps ns n a entries firsts starts rows words floats values v-words′ v-floats′ v-values′ least (suc i))) (⋆ 𝓤 H A (At (suc i) v-words′ v-floats′ v-values′ least m-least))))) (via 𝓤 (ex 𝓤 (λ (m-least : Val). guard 𝓤 (((suc i) + t ≡ steps) × (length v-words′ ≡ length words) × (length v-floats′ ≡ length floats) × (length v-values′ ≡ length values) × (Is usize least′ (m-least ∷ [])) × (Going steps ns n a entries firsts starts rows words floats values v-words′ v-floats′ v-values′ least′ (suc i))) (⋆ 𝓤 H A (At (suc i) v-words′ v-floats′ v-values′ least′ m-least)))) (via 𝓤 (guard 𝓤 (((suc i) + t ≡ steps) × (length v-words′ ≡ length words) × (length v-floats′ ≡ length floats) × (length v-values′ ≡ length values) × (Is usize least′ (m-least′ ∷ [])) × (Going steps ns n a entries firsts starts rows words floats values v-words′ v-floats′ v-values′ least′ (suc i))) (⋆ 𝓤 H A (At (suc i) v-words′ v-floats′ v-values′ least′ m-least′))) (guardI 𝓤 (((suc i) + t ≡ steps) × (length v-words′ ≡ length words) × (length v-floats′ ≡ length floats) × (length v-values′ ≡ length values) × (Is usize least′ (m-least′ ∷ [])) × (Going steps ns n a entries firsts starts rows words floats values v-words′ v-floats′ v-values′ least′ (suc i))) (⋆ 𝓤 H A (At (suc i) v-words′ v-floats′ v-values′ least′ m-least′)) (e, len-words′, len-floats′, len-values′, is-least′, kept′)) (exI 𝓤 (λ (m-least : Val). guard 𝓤 (((suc i) + t ≡ steps) × (length v-words′ ≡ length words) × (length v-floats′ ≡ length floats) × (length v-values′ ≡ length values) × (Is usize least′ (m-least ∷ [])) × (Going steps ns n a entries firsts starts rows words floats values v-words′ v-floats′ v-values′ least′ (suc i))) (⋆ 𝓤 H A (At (suc i) v-words′ v-floats′ v-values′ least′ m-least))) m-least′)) (exI 𝓤 (λ (least : ℕ). ex 𝓤 (λ (m-least : Val). guard 𝓤 (((suc i) + t ≡ steps) × (length v-words′ ≡ length words) × (length v-floats′ ≡ length floats) × (length v-values′ ≡ length values) × (Is usize least (m-least ∷ [])) × (Going steps ns n a entries firsts starts rows words floats values v-words′ v-floats′ v-values′ least (suc i))) (⋆ 𝓤 H A (At (suc i) v-words′ v-floats′ v-values′ least m-least)))) least′)) (exI 𝓤 (λ (v-values : List Float). ex 𝓤 (λ (least : ℕ). ex 𝓤 (λ (m-least : Val). guard 𝓤 (((suc i) + t ≡ steps) × (length v-words′ ≡ length words) × (length v-floats′ ≡ length floats) × (length v-values ≡ length values) × (Is usize least (m-least ∷ [])) × (Going steps ns n a entries firsts starts rows words floats values v-words′ v-floats′ v-values least (suc i))) (⋆ 𝓤 H A (At (suc i) v-words′ v-floats′ v-values least m-least))))) v-values′)) (exI 𝓤 (λ (v-floats : List Float). ex 𝓤 (λ (v-values : List Float). ex 𝓤 (λ (least : ℕ). ex 𝓤 (λ (m-least : Val). guard 𝓤 (((suc i) + t ≡ steps) × (length v-words′ ≡ length words) × (length v-floats ≡ length floats) × (length v-values ≡ length values) × (Is usize least (m-least ∷ [])) × (Going steps ns n a entries firsts starts rows words floats values v-words′ v-floats v-values least (suc i))) (⋆ 𝓤 H A (At (suc i) v-words′ v-floats v-values least m-least)))))) v-floats′)) (exI 𝓤 (λ (v-words : List ℕ). ex 𝓤 (λ (v-floats : List Float). ex 𝓤 (λ (v-values : List Float). ex 𝓤 (λ (least : ℕ). ex 𝓤 (λ (m-least : Val). guard 𝓤 (((suc i) + t ≡ steps) × (length v-words ≡ length words) × (length v-floats ≡ length floats) × (length v-values ≡ length values) × (Is usize least (m-least ∷ [])) × (Going steps ns n a entries firsts starts rows words floats values v-words v-floats v-values least (suc i))) (⋆ 𝓤 H A (At (suc i) v-words v-floats v-values least m-least))))))) v-words′)) (exI 𝓤 (λ (i : ℕ). ex 𝓤 (λ (v-words : List ℕ). ex 𝓤 (λ (v-floats : List Float). ex 𝓤 (λ (v-values : List Float). ex 𝓤 (λ (least : ℕ). ex 𝓤 (λ (m-least : Val). guard 𝓤 ((i + t ≡ steps) × (length v-words ≡ length words) × (length v-floats ≡ length floats) × (length v-values ≡ length values) × (Is usize least (m-least ∷ [])) × (Going steps ns n a entries firsts starts rows words floats values v-words v-floats v-values least i)) (⋆ 𝓤 H A (At i v-words v-floats v-values least m-least)))))))) (suc i)))
           (via 𝓤 (guard 𝓤 (t < suc t) (Inv t)) (guardI 𝓤 (t < suc t) (Inv t) (lt-suc-self t)) (exI 𝓤 (λ (v : ℕ). guard 𝓤 (v < suc t) (Inv v)) t))
 
-      turn-at : (t i : ℕ) (v-words : List ℕ) (v-floats : List Float) (v-values : List Float) (least : ℕ) (m-least : Val) → ((i + t ≡ steps) × (length v-words ≡ length words) × (length v-floats ≡ length floats) × (length v-values ≡ length values) × (Is usize least (m-least ∷ [])) × (Going steps ns n a entries firsts starts rows groups us words floats values v-words v-floats v-values least i)) → ent 𝓤 (⋆ 𝓤 H A (At i v-words v-floats v-values least m-least)) (Wp 𝓤 H C Λ En body.turn-1 (afterTurn 𝓤 H (Below t) Left))
+      turn-at : (t i : ℕ) (v-words : List ℕ) (v-floats : List Float) (v-values : List Float) (least : ℕ) (m-least : Val) → ((i + t ≡ steps) × (length v-words ≡ length words) × (length v-floats ≡ length floats) × (length v-values ≡ length values) × (Is usize least (m-least ∷ [])) × (Going steps ns n a entries firsts starts rows words floats values v-words v-floats v-values least i)) → ent 𝓤 (⋆ 𝓤 H A (At i v-words v-floats v-values least m-least)) (Wp 𝓤 H C Λ En body.turn-1 (afterTurn 𝓤 H (Below t) Left))
       turn-at zero i v-words v-floats v-values least m-least f = ends i v-words v-floats v-values least m-least (sym (add-zero i) ∙ f .0) (f .1) (f .2) (f .3) (f .4) (f .5) (Below 0)
       turn-at (suc t) i v-words v-floats v-values least m-least f = more i v-words v-floats v-values least m-least (f .1) (f .2) (f .3) (f .4) (f .5) (omega (arith, f .0)) (Below (suc t)) (λ v-words′ v-floats′ v-values′ least′ m-least′ len-words′ len-floats′ len-values′ is-least′ kept′. below t i v-words′ v-floats′ v-values′ least′ m-least′ (omega (arith, f .0)) len-words′ len-floats′ len-values′ is-least′ kept′)
 
@@ -440,7 +440,7 @@ module _ {M : Type 1} (𝓤 : URA M) (H : Heap 𝓤) (A : Atoms 𝓤) (W : Given
       loops : ent 𝓤 (⋆ 𝓤 H A (At 0 words floats values n ((vint w64 n)))) (Wp 𝓤 H C Λ En body.s-3 (afterSeq 𝓤 H (Wp 𝓤 H C Λ En body.t-4 (atReturn 𝓤 H En Post)) (atReturn 𝓤 H En Post)))
       loops =
           via 𝓤 (Inv steps)
-          (via 𝓤 (ex 𝓤 (λ (v-words : List ℕ). ex 𝓤 (λ (v-floats : List Float). ex 𝓤 (λ (v-values : List Float). ex 𝓤 (λ (least : ℕ). ex 𝓤 (λ (m-least : Val). guard 𝓤 ((0 + steps ≡ steps) × (length v-words ≡ length words) × (length v-floats ≡ length floats) × (length v-values ≡ length values) × (Is usize least (m-least ∷ [])) × (Going steps ns n a entries firsts starts rows groups us words floats values v-words v-floats v-values least 0)) (⋆ 𝓤 H A (At 0 v-words v-floats v-values least m-least)))))))) (via 𝓤 (ex 𝓤 (λ (v-floats : List Float). ex 𝓤 (λ (v-values : List Float). ex 𝓤 (λ (least : ℕ). ex 𝓤 (λ (m-least : Val). guard 𝓤 ((0 + steps ≡ steps) × (length words ≡ length words) × (length v-floats ≡ length floats) × (length v-values ≡ length values) × (Is usize least (m-least ∷ [])) × (Going steps ns n a entries firsts starts rows groups us words floats values words v-floats v-values least 0)) (⋆ 𝓤 H A (At 0 words v-floats v-values least m-least))))))) (via 𝓤 (ex 𝓤 (λ (v-values : List Float). ex 𝓤 (λ (least : ℕ). ex 𝓤 (λ (m-least : Val). guard 𝓤 ((0 + steps ≡ steps) × (length words ≡ length words) × (length floats ≡ length floats) × (length v-values ≡ length values) × (Is usize least (m-least ∷ [])) × (Going steps ns n a entries firsts starts rows groups us words floats values words floats v-values least 0)) (⋆ 𝓤 H A (At 0 words floats v-values least m-least)))))) (via 𝓤 (ex 𝓤 (λ (least : ℕ). ex 𝓤 (λ (m-least : Val). guard 𝓤 ((0 + steps ≡ steps) × (length words ≡ length words) × (length floats ≡ length floats) × (length values ≡ length values) × (Is usize least (m-least ∷ [])) × (Going steps ns n a entries firsts starts rows groups us words floats values words floats values least 0)) (⋆ 𝓤 H A (At 0 words floats values least m-least))))) (via 𝓤 (ex 𝓤 (λ (m-least : Val). guard 𝓤 ((0 + steps ≡ steps) × (length words ≡ length words) × (length floats ≡ length floats) × (length values ≡ length values) × (Is usize n (m-least ∷ [])) × (Going steps ns n a entries firsts starts rows groups us words floats values words floats values n 0)) (⋆ 𝓤 H A (At 0 words floats values n m-least)))) (via 𝓤 (guard 𝓤 ((0 + steps ≡ steps) × (length words ≡ length words) × (length floats ≡ length floats) × (length values ≡ length values) × (Is usize n ((vint w64 n) ∷ [])) × (Going steps ns n a entries firsts starts rows groups us words floats values words floats values n 0)) (⋆ 𝓤 H A (At 0 words floats values n ((vint w64 n))))) (guardI 𝓤 ((0 + steps ≡ steps) × (length words ≡ length words) × (length floats ≡ length floats) × (length values ≡ length values) × (Is usize n ((vint w64 n) ∷ [])) × (Going steps ns n a entries firsts starts rows groups us words floats values words floats values n 0)) (⋆ 𝓤 H A (At 0 words floats values n ((vint w64 n)))) (zero-add steps, refl, refl, refl, (refl, fits-n), going-none pre)) (exI 𝓤 (λ (m-least : Val). guard 𝓤 ((0 + steps ≡ steps) × (length words ≡ length words) × (length floats ≡ length floats) × (length values ≡ length values) × (Is usize n (m-least ∷ [])) × (Going steps ns n a entries firsts starts rows groups us words floats values words floats values n 0)) (⋆ 𝓤 H A (At 0 words floats values n m-least))) ((vint w64 n)))) (exI 𝓤 (λ (least : ℕ). ex 𝓤 (λ (m-least : Val). guard 𝓤 ((0 + steps ≡ steps) × (length words ≡ length words) × (length floats ≡ length floats) × (length values ≡ length values) × (Is usize least (m-least ∷ [])) × (Going steps ns n a entries firsts starts rows groups us words floats values words floats values least 0)) (⋆ 𝓤 H A (At 0 words floats values least m-least)))) n)) (exI 𝓤 (λ (v-values : List Float). ex 𝓤 (λ (least : ℕ). ex 𝓤 (λ (m-least : Val). guard 𝓤 ((0 + steps ≡ steps) × (length words ≡ length words) × (length floats ≡ length floats) × (length v-values ≡ length values) × (Is usize least (m-least ∷ [])) × (Going steps ns n a entries firsts starts rows groups us words floats values words floats v-values least 0)) (⋆ 𝓤 H A (At 0 words floats v-values least m-least))))) values)) (exI 𝓤 (λ (v-floats : List Float). ex 𝓤 (λ (v-values : List Float). ex 𝓤 (λ (least : ℕ). ex 𝓤 (λ (m-least : Val). guard 𝓤 ((0 + steps ≡ steps) × (length words ≡ length words) × (length v-floats ≡ length floats) × (length v-values ≡ length values) × (Is usize least (m-least ∷ [])) × (Going steps ns n a entries firsts starts rows groups us words floats values words v-floats v-values least 0)) (⋆ 𝓤 H A (At 0 words v-floats v-values least m-least)))))) floats)) (exI 𝓤 (λ (v-words : List ℕ). ex 𝓤 (λ (v-floats : List Float). ex 𝓤 (λ (v-values : List Float). ex 𝓤 (λ (least : ℕ). ex 𝓤 (λ (m-least : Val). guard 𝓤 ((0 + steps ≡ steps) × (length v-words ≡ length words) × (length v-floats ≡ length floats) × (length v-values ≡ length values) × (Is usize least (m-least ∷ [])) × (Going steps ns n a entries firsts starts rows groups us words floats values v-words v-floats v-values least 0)) (⋆ 𝓤 H A (At 0 v-words v-floats v-values least m-least))))))) words)) (exI 𝓤 (λ (i : ℕ). ex 𝓤 (λ (v-words : List ℕ). ex 𝓤 (λ (v-floats : List Float). ex 𝓤 (λ (v-values : List Float). ex 𝓤 (λ (least : ℕ). ex 𝓤 (λ (m-least : Val). guard 𝓤 ((i + steps ≡ steps) × (length v-words ≡ length words) × (length v-floats ≡ length floats) × (length v-values ≡ length values) × (Is usize least (m-least ∷ [])) × (Going steps ns n a entries firsts starts rows groups us words floats values v-words v-floats v-values least i)) (⋆ 𝓤 H A (At i v-words v-floats v-values least m-least)))))))) 0))
+          (via 𝓤 (ex 𝓤 (λ (v-words : List ℕ). ex 𝓤 (λ (v-floats : List Float). ex 𝓤 (λ (v-values : List Float). ex 𝓤 (λ (least : ℕ). ex 𝓤 (λ (m-least : Val). guard 𝓤 ((0 + steps ≡ steps) × (length v-words ≡ length words) × (length v-floats ≡ length floats) × (length v-values ≡ length values) × (Is usize least (m-least ∷ [])) × (Going steps ns n a entries firsts starts rows words floats values v-words v-floats v-values least 0)) (⋆ 𝓤 H A (At 0 v-words v-floats v-values least m-least)))))))) (via 𝓤 (ex 𝓤 (λ (v-floats : List Float). ex 𝓤 (λ (v-values : List Float). ex 𝓤 (λ (least : ℕ). ex 𝓤 (λ (m-least : Val). guard 𝓤 ((0 + steps ≡ steps) × (length words ≡ length words) × (length v-floats ≡ length floats) × (length v-values ≡ length values) × (Is usize least (m-least ∷ [])) × (Going steps ns n a entries firsts starts rows words floats values words v-floats v-values least 0)) (⋆ 𝓤 H A (At 0 words v-floats v-values least m-least))))))) (via 𝓤 (ex 𝓤 (λ (v-values : List Float). ex 𝓤 (λ (least : ℕ). ex 𝓤 (λ (m-least : Val). guard 𝓤 ((0 + steps ≡ steps) × (length words ≡ length words) × (length floats ≡ length floats) × (length v-values ≡ length values) × (Is usize least (m-least ∷ [])) × (Going steps ns n a entries firsts starts rows words floats values words floats v-values least 0)) (⋆ 𝓤 H A (At 0 words floats v-values least m-least)))))) (via 𝓤 (ex 𝓤 (λ (least : ℕ). ex 𝓤 (λ (m-least : Val). guard 𝓤 ((0 + steps ≡ steps) × (length words ≡ length words) × (length floats ≡ length floats) × (length values ≡ length values) × (Is usize least (m-least ∷ [])) × (Going steps ns n a entries firsts starts rows words floats values words floats values least 0)) (⋆ 𝓤 H A (At 0 words floats values least m-least))))) (via 𝓤 (ex 𝓤 (λ (m-least : Val). guard 𝓤 ((0 + steps ≡ steps) × (length words ≡ length words) × (length floats ≡ length floats) × (length values ≡ length values) × (Is usize n (m-least ∷ [])) × (Going steps ns n a entries firsts starts rows words floats values words floats values n 0)) (⋆ 𝓤 H A (At 0 words floats values n m-least)))) (via 𝓤 (guard 𝓤 ((0 + steps ≡ steps) × (length words ≡ length words) × (length floats ≡ length floats) × (length values ≡ length values) × (Is usize n ((vint w64 n) ∷ [])) × (Going steps ns n a entries firsts starts rows words floats values words floats values n 0)) (⋆ 𝓤 H A (At 0 words floats values n ((vint w64 n))))) (guardI 𝓤 ((0 + steps ≡ steps) × (length words ≡ length words) × (length floats ≡ length floats) × (length values ≡ length values) × (Is usize n ((vint w64 n) ∷ [])) × (Going steps ns n a entries firsts starts rows words floats values words floats values n 0)) (⋆ 𝓤 H A (At 0 words floats values n ((vint w64 n)))) (zero-add steps, refl, refl, refl, (refl, fits-n), going-none pre)) (exI 𝓤 (λ (m-least : Val). guard 𝓤 ((0 + steps ≡ steps) × (length words ≡ length words) × (length floats ≡ length floats) × (length values ≡ length values) × (Is usize n (m-least ∷ [])) × (Going steps ns n a entries firsts starts rows words floats values words floats values n 0)) (⋆ 𝓤 H A (At 0 words floats values n m-least))) ((vint w64 n)))) (exI 𝓤 (λ (least : ℕ). ex 𝓤 (λ (m-least : Val). guard 𝓤 ((0 + steps ≡ steps) × (length words ≡ length words) × (length floats ≡ length floats) × (length values ≡ length values) × (Is usize least (m-least ∷ [])) × (Going steps ns n a entries firsts starts rows words floats values words floats values least 0)) (⋆ 𝓤 H A (At 0 words floats values least m-least)))) n)) (exI 𝓤 (λ (v-values : List Float). ex 𝓤 (λ (least : ℕ). ex 𝓤 (λ (m-least : Val). guard 𝓤 ((0 + steps ≡ steps) × (length words ≡ length words) × (length floats ≡ length floats) × (length v-values ≡ length values) × (Is usize least (m-least ∷ [])) × (Going steps ns n a entries firsts starts rows words floats values words floats v-values least 0)) (⋆ 𝓤 H A (At 0 words floats v-values least m-least))))) values)) (exI 𝓤 (λ (v-floats : List Float). ex 𝓤 (λ (v-values : List Float). ex 𝓤 (λ (least : ℕ). ex 𝓤 (λ (m-least : Val). guard 𝓤 ((0 + steps ≡ steps) × (length words ≡ length words) × (length v-floats ≡ length floats) × (length v-values ≡ length values) × (Is usize least (m-least ∷ [])) × (Going steps ns n a entries firsts starts rows words floats values words v-floats v-values least 0)) (⋆ 𝓤 H A (At 0 words v-floats v-values least m-least)))))) floats)) (exI 𝓤 (λ (v-words : List ℕ). ex 𝓤 (λ (v-floats : List Float). ex 𝓤 (λ (v-values : List Float). ex 𝓤 (λ (least : ℕ). ex 𝓤 (λ (m-least : Val). guard 𝓤 ((0 + steps ≡ steps) × (length v-words ≡ length words) × (length v-floats ≡ length floats) × (length v-values ≡ length values) × (Is usize least (m-least ∷ [])) × (Going steps ns n a entries firsts starts rows words floats values v-words v-floats v-values least 0)) (⋆ 𝓤 H A (At 0 v-words v-floats v-values least m-least))))))) words)) (exI 𝓤 (λ (i : ℕ). ex 𝓤 (λ (v-words : List ℕ). ex 𝓤 (λ (v-floats : List Float). ex 𝓤 (λ (v-values : List Float). ex 𝓤 (λ (least : ℕ). ex 𝓤 (λ (m-least : Val). guard 𝓤 ((i + steps ≡ steps) × (length v-words ≡ length words) × (length v-floats ≡ length floats) × (length v-values ≡ length values) × (Is usize least (m-least ∷ [])) × (Going steps ns n a entries firsts starts rows words floats values v-words v-floats v-values least i)) (⋆ 𝓤 H A (At i v-words v-floats v-values least m-least)))))))) 0))
           (loop-rule 𝓤 H (W .laws) 𝓣 _<_ (Nat·lt-wfRel .wf) En body.turn-1 Left Inv turns steps)
 
     walk : ent 𝓤 (onEntry 𝓤 H A here.signature (κ-firsts, (κ-starts, (κ-rows, (κ-groups, (κ-us, (κ-words, (κ-floats, (κ-values, tt)))))))) (q-firsts, (q-starts, (q-rows, (q-groups, (q-us, (q-words, (q-floats, (q-values, tt)))))))) (steps, (ns, (n, (a, (entries, (ref-firsts γ-firsts firsts, (ref-starts γ-starts starts, (ref-rows γ-rows rows, (ref-groups γ-groups groups, (ref-us γ-us us, (ref-words γ-words words, (ref-floats γ-floats floats, (ref-values γ-values values, tt))))))))))))) at-entry) (WpFn 𝓤 H C Λ code.function (vint w64 steps ∷ vint w64 ns ∷ vint w64 n ∷ vint w64 a ∷ vint w64 entries ∷ s-firsts ∷ s-starts ∷ s-rows ∷ s-groups ∷ s-us ∷ s-words ∷ s-floats ∷ s-values ∷ []) Post)
