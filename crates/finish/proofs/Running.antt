@@ -70,9 +70,10 @@ take-replicate (suc k) (suc m) z h = ap (λ l. z ∷ l) (take-replicate k m z (o
 -- what stands from d on is the same
 same-from : (d : ℕ) (w w′ : List ℕ) → drop d w′ ≡ drop d w → (i : ℕ) → d ≤ i → (getD w′ i 0 ≡ getD w i 0) × (drop i w′ ≡ drop i w)
 same-from d w w′ e i h =
-    let q : d + (i - d) ≡ i = omega arith in
-    (ap (λ j. getD w′ j 0) (sym q) ∙ sym (getD-drop d w′ (i - d) 0) ∙ ap (λ z. getD z (i - d) 0) e ∙ getD-drop d w (i - d) 0 ∙ ap (λ j. getD w j 0) q,
-    ap (λ j. drop j w′) (sym q) ∙ sym (drop-drop (i - d) d w′) ∙ ap (drop (i - d)) e ∙ drop-drop (i - d) d w ∙ ap (λ j. drop j w) q)
+    let q : d + (i - d) ≡ i = omega arith in (
+      ap (λ j. getD w′ j 0) (sym q) ∙ sym (getD-drop d w′ (i - d) 0) ∙ ap (λ z. getD z (i - d) 0) e ∙ getD-drop d w (i - d) 0 ∙ ap (λ j. getD w j 0) q,
+      ap (λ j. drop j w′) (sym q) ∙ sym (drop-drop (i - d) d w′) ∙ ap (drop (i - d)) e ∙ drop-drop (i - d) d w ∙ ap (λ j. drop j w) q,
+    )
 
 same-before : (m : ℕ) (w w′ : List ℕ) → take m w′ ≡ take m w → (i : ℕ) → i < m → getD w′ i 0 ≡ getD w i 0
 same-before m w w′ e i h = sym (getD-take m w′ i 0 h) ∙ ap (λ z. getD z i 0) e ∙ getD-take m w i 0 h
