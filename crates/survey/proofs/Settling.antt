@@ -1,9 +1,13 @@
 -- What any call says of a refusal. Assumes nothing.
-use mathlib.Core.Path.{_≡_, refl, _∙_}
+use mathlib.Core.Path.{_≡_, refl, ap, _∙_}
 use mathlib.Core.Logic.{_≢_}
+use mathlib.Core.Bool.{Bool, true, false}
 use mathlib.Core.Option.{Option, none, some}
 use Prim.Native.Nat.{ℕ}
-use Rattle.statement.specs.Answers.{answered}
+use native.Mathlib.Omega.{arith}
+use lib.Dec.{eqb}
+use borrow.Author.Tests.{eqb-true, eqb-false, ne-eqb}
+use Rattle.statement.specs.Answers.{number, answered}
 use Rattle.statement.specs.Record.{emptyRecord}
 use Rattle.statement.specs.Areas.{Areas}
 use Rattle.statement.specs.Calls.{settled, cleared}
@@ -26,22 +30,34 @@ unfolding settled
 refused-areas r none R X h = absurd (h refl)
 refused-areas r (some a) R X h = refl
 
--- ---- how many updates are cleared
+-- ---- accepted or not
 
+zero-accepted : (a : Answer) → number a ≡ 0 → a ≡ Accepted
+zero-accepted Accepted e = refl
+zero-accepted OverLimit e = absurd (omega arith)
+zero-accepted (WrongLengths which) e = absurd (omega arith)
+zero-accepted (WrongStarts position) e = absurd (omega arith)
+zero-accepted (WrongColumn k) e = absurd (omega arith)
+zero-accepted (ShortArea area need) e = absurd (omega arith)
+zero-accepted (OverCap entries cap) e = absurd (omega arith)
+zero-accepted (WrongOrder position) e = absurd (omega arith)
+zero-accepted (WrongPivot k) e = absurd (omega arith)
+zero-accepted (WrongSide length) e = absurd (omega arith)
+zero-accepted NoFactor e = absurd (omega arith)
+zero-accepted WrongStructure e = absurd (omega arith)
+zero-accepted (WrongFrame line) e = absurd (omega arith)
+
+-- whatever follows from either
+pub accepted-or : {P : Type 0} (a : Answer) → (a ≡ Accepted → P) → (a ≢ Accepted → P) → P
+accepted-or {P} a here else = go (eqb (number a) 0) refl
+  where
+    go : (b : Bool) → eqb (number a) 0 ≡ b → P
+    go true e = here (zero-accepted a (eqb-true _ _ e))
+    go false e = else (λ q. eqb-false _ _ e (ap number q))
+
+-- how many updates are cleared
 pub stale-accepted : (a : Answer) (long : ℕ) → a ≡ Accepted → 0 ≡ staleOf a long
 stale-accepted a long e = rw e
 
 pub stale-refused : (a : Answer) (long : ℕ) → a ≢ Accepted → long ≡ staleOf a long
-stale-refused Accepted long ne = absurd (ne refl)
-stale-refused OverLimit long ne = refl
-stale-refused (WrongLengths which) long ne = refl
-stale-refused (WrongStarts position) long ne = refl
-stale-refused (WrongColumn k) long ne = refl
-stale-refused (ShortArea area need) long ne = refl
-stale-refused (OverCap entries cap) long ne = refl
-stale-refused (WrongOrder position) long ne = refl
-stale-refused (WrongPivot k) long ne = refl
-stale-refused (WrongSide length) long ne = refl
-stale-refused NoFactor long ne = refl
-stale-refused WrongStructure long ne = refl
-stale-refused (WrongFrame line) long ne = refl
+stale-refused a long ne = rw (ne-eqb (number a) 0 (λ q. ne (zero-accepted a q)))

@@ -56,6 +56,11 @@ pub record Surveyed (M : Matrix) (cap : ℕ) (r : Room) (x : Findings) (permutat
   pub go : x .answer ≡ Accepted → Laid M cap r x permutation firsts starts groups tasks words nine
   pub idle : x .answer ≢ Accepted → x .supernodes ≡ 0
 
+-- the same once the updates are laid: the words are not what they were
+pub record Found (M : Matrix) (cap : ℕ) (r : Room) (x : Findings) (permutation firsts starts groups tasks nine : List ℕ) : Type 0 where
+  pub words : List ℕ
+  pub surveyed : Surveyed M cap r x permutation firsts starts groups tasks words nine
+
 -- how long the areas but the updates are, and that they are zero
 pub record Blank (r : Room) (permutation firsts starts groups tasks top words nine : List ℕ) : Type 0 where
   pub one : permutation ≡ replicate (r .permutation) 0
