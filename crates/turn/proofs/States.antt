@@ -1,13 +1,13 @@
 -- One turn of the run, over plain lists. Assumes nothing.
 use mathlib.Core.Path.{_≡_, refl, sym, ap, ap₂, _∙_, subst}
 use mathlib.Core.Bool.{Bool, true, false, _||_}
-use mathlib.Core.List.{List, _∷_}
+use mathlib.Core.List.{List, _∷_, _++_}
 use Prim.Native.Nat.{ℕ, zero, suc, _+_, _-_, _≤_, _<_, min}
 use native.Mathlib.Omega.{arith}
 use native.Mathlib.Nat.{add-zero, add-suc, add-sub-of-le}
 use native.Mathlib.Decide.{ℕ-discrete}
 use lib.ListN.{length, getD, set, take, drop}
-use lib.Seq.{drop-set-lt, getD-set-same, getD-set-other, getD-take, getD-drop}
+use lib.Seq.{take-at, drop-at, length-take-le, drop-set-lt, getD-set-same, getD-set-other, getD-take, getD-drop}
 use lib.Ieee.{Float}
 use borrow.Author.Tests.{eq-eqb, ne-eqb}
 use Rattle.laws.specs.Lent.{laid}
@@ -16,12 +16,13 @@ use Rattle.statement.specs.Shape.{Shape, parentOf, rowsOf}
 use Rattle.statement.specs.Rules.{Out, made, broke, step}
 use Rattle.statement.specs.Run.{State, blocked, fateOf, settle, fate}
 use Rattle.laws.proofs.Loops.{blocked-cons}
+use Rattle.updates.specs.Layout.{ownersAt, parentsAt}
 use Rattle.step.specs.declared.StepAnswer.{StepAnswer}
 use Rattle.step.specs.declared.StepAnswer.the-variants.{Made, Broke}
 use Rattle.step.proofs.Link.{stepped-alike}
 use Rattle.step.specs.Answer.{answerOf, leaves, Stepped}
 use Rattle.statement.specs.declared.Factored.{Factored}
-use Rattle.run.specs.Turn.{under, Due, Flagged, Is, Turned}
+use Rattle.turn.specs.Turn.{under, Due, Flagged, Is, Turned}
 
 -- children come before their parent
 closed : (S : Shape) (h : List ℕ) (J d : ℕ) → ((K : ℕ) → J ≤ K → K < J + d → K < parentOf S K) → blocked S h J (J + d) ≡ blocked S h J J
@@ -113,13 +114,13 @@ module _ (S : Shape) (ns J : ℕ) (k : J < ns) (up : (K : ℕ) → K < ns → K 
       unfolding fate
       fail c t r = let q = stepped-at (Broke c) t in rw (free (s .halted) words (i .flags) z) (broke-by c (step S A (s .values) J) (q .0) (q .1) r)
 
-module _ (n : ℕ) (F St R : List ℕ) (ns a : ℕ) (groups : List ℕ) (upd : List (List ℕ)) (ob ab rb pb : ℕ) (words : List ℕ) (floats values : List Float)
-    (t : Due n F St R ns a groups upd ob ab rb pb words floats (length values)) (A : ℕ → ℕ → Float) (J : ℕ) (k : J < ns) (least p : ℕ) (e : p ≡ getD words (pb + J) 0) where
+module _ (n : ℕ) (F St R : List ℕ) (ns a : ℕ) (groups words : List ℕ) (floats values : List Float) (entries : ℕ)
+    (t : Due n F St R ns a groups words floats entries) (A : ℕ → ℕ → Float) (J : ℕ) (k : J < ns) (least p : ℕ) (e : p ≡ getD words (parentsAt n + J) 0) where
   abbrev S : Shape
-  S = under n F St R (drop pb words)
+  S = under n F St R (drop (parentsAt n) words)
 
-  parent-at : (K : ℕ) → parentOf S K ≡ getD words (pb + K) 0
-  parent-at K = getD-drop pb words K 0
+  parent-at : (K : ℕ) → parentOf S K ≡ getD words (parentsAt n + K) 0
+  parent-at K = getD-drop (parentsAt n) words K 0
 
   up : (K : ℕ) → K < ns → K < parentOf S K
   up K h = omega (arith, parent-at K, t .up K h)
@@ -131,19 +132,19 @@ module _ (n : ℕ) (F St R : List ℕ) (ns a : ℕ) (groups : List ℕ) (upd : L
   p-low = omega (arith, t .top J k)
 
   pub p-in : p < length words
-  p-in = omega (arith, t .top J k, t .past, t .room)
+  p-in = omega (arith, t .top J k, t .at J k .inside)
 
   pub skipped : (getD words J 0 ≡ 0 → ⊥) → Turned S A ns J a least least words (set words p 1) floats floats values values
   skipped z =
       record {
         next = λ s i. rw p-is (skip S ns J k up A s values least words i (omega (arith, p-is, p-in)) z);
-        rest = drop-set-lt (n + n + 1) words p 1 (omega (arith, p-low));
+        rest = drop-set-lt (ownersAt n) words p 1 (omega (arith, p-low));
         matrix = refl;
         sized = refl;
       }
 
   module _ (z : getD words J 0 ≡ 0) (words′ : List ℕ) (floats′ values′ : List Float) (f : take a floats′ ≡ take a floats) (w : take (n + 1) words′ ≡ take (n + 1) words)
-      (d : drop (n + n + 1) words′ ≡ drop (n + n + 1) words) (l : length words′ ≡ length words) (m : length values′ ≡ length values) where
+      (d : drop (ownersAt n) words′ ≡ drop (ownersAt n) words) (l : length words′ ≡ length words) (m : length values′ ≡ length values) where
     whole : (x r : StepAnswer) → x ≡ r → Stepped (laid n F St R) A J values values′ x → Stepped S A J values values′ r
     whole x r h q = subst (Stepped S A J values values′) h (stepped-alike (laid n F St R) S J (record { firsts = λ K h. refl; rows = λ K h. unfold rowsOf in refl }) A values values′ x q)
 
@@ -161,7 +162,16 @@ module _ (n : ℕ) (F St R : List ℕ) (ns a : ℕ) (groups : List ℕ) (upd : L
     broken x c r words″ e₁ e₂ h q =
         record {
           next = λ s i. rw (e₁, e₂, p-is) (fail S ns J k up A s values least words i words′ (n + 1) (omega (arith, t .few)) w z values′ c (whole x (Broke c) h q) (omega (arith, p-is, p-in)));
-          rest = ap (drop (n + n + 1)) e₂ ∙ drop-set-lt (n + n + 1) words′ p 1 (omega (arith, p-low)) ∙ d;
+          rest = ap (drop (ownersAt n)) e₂ ∙ drop-set-lt (ownersAt n) words′ p 1 (omega (arith, p-low)) ∙ d;
           matrix = f;
           sized = m;
         }
+
+-- the part of the values that a turn takes, put back
+pub over : (S : Shape) (A : ℕ → ℕ → Float) (ns J a least r : ℕ) (words words′ : List ℕ) (floats floats′ v w : List Float) (entries : ℕ) → entries ≤ length v → length w ≡ length (take entries v) →
+    Turned S A ns J a least r words words′ floats floats′ (take entries v) w →
+    (Turned S A ns J a least r words words′ floats floats′ (take entries v) (take entries (w ++ drop entries v))) × (drop entries (w ++ drop entries v) ≡ drop entries v)
+over S A ns J a least r words words′ floats floats′ v w entries h l t = (rw (take-at w (drop entries v) entries long) t, drop-at w (drop entries v) entries long)
+  where
+    long : length w ≡ entries
+    long = l ∙ length-take-le entries v h

@@ -1,9 +1,9 @@
--- `run::failed` meets its contract. Assumes nothing.
+-- `turn::failed` meets its contract. Assumes nothing.
 use native.Mathlib.Omega.{arith}
 use borrow.Author.Needs.{needs}
 use mathlib.Core.Path.{refl}
-use Rattle.run.proofs.failed.Statement.{statement}
-use Rattle.run.proofs.failed.Tie as tie
+use Rattle.turn.proofs.failed.Statement.{statement}
+use Rattle.turn.proofs.failed.Tie as tie
 
 mul-words : tie.Need-mul-words
 mul-words c = search needs
