@@ -20,7 +20,7 @@ pub struct Findings {
     pub work: usize,
 }
 
-fn refused(answer: Answer) -> Findings
+pub fn refused(answer: Answer) -> Findings
     ensures { λ r. ⌜ (r .answer ≡ answer) × (r .supernodes ≡ 0) ⌝ }
 {
     Findings {
