@@ -163,6 +163,10 @@ def spells(p):
     n, k, t = p
     return 'slice-vals' if k in ('shr', 'mut') else 'ptr-vals' if k == 'arr' else 'uint-vals w64' if k == 'word' else f'{laws(t)}.vals {of(t)}'
 
+def lit(o):
+    """a constant: MIR writes one above 1023 with its bound, and one near the end of its width from there"""
+    n = int(o[2])
+    return '(lit ! tt)' if n < 1024 else '(neg-lit ! tt)' if n > 2 ** 63 else '(big-lit ! (record { fits = lit< tt }))'
 REFS = {'shr': 'ShrSlice', 'mut': 'MutSlice', 'arr': 'MutRef'}
 def slot(t): return f'(ArrayOf (plain (λ _. {rtype(elem(t))})) (λ _. tt) {t.split(";")[1].strip()})'
 
@@ -312,7 +316,7 @@ class Walk:
 
     def operand(w, o):
         """how an operand is loaded, and what it is"""
-        if o[0] == 'int': return '(lit ! tt)', dict(kind='word', val=o[2], mach=f'vint w64 {o[2]}', **{'is': '(refl, lit< tt)'})
+        if o[0] == 'int': return lit(o), dict(kind='word', val=o[2], mach=f'vint w64 {o[2]}', **{'is': '(refl, lit< tt)'})
         k, proj = int(o[1][1]), seqlist(o[1][2])
         assert not proj, o
         return w.look(k), w.loc[k]
@@ -443,7 +447,7 @@ class Walk:
         w.asked.append(asked)
         w.emit(c.front('T', 'O') + f'use2 W (raw ({con} 𝓤 H A mem run .pre {ghost})) (asked{k}{w.names()}{bnames}) $ '); c.head(2, 'PRE'); w.line('')
         ops = ''
-        for a in args: ops += f'(and-then ! {("(lit ! tt)" if a[0] == "int" else "(load ! (from ! (stop !)) (look ! " + str(c.ix("L-" + a[1][1])) + " refl))")} '
+        for a in args: ops += f'(and-then ! {(lit(a) if a[0] == "int" else "(load ! (from ! (stop !)) (look ! " + str(c.ix("L-" + a[1][1])) + " refl))")} '
         ops += '(no-more !)' + ')' * len(args)
         w.open_(f'calls-at ! fm ({con} 𝓤 H A mem run) known-{w.id(G.name)} {ghost} {ops} (λ r{k}. '); w.line('')
         RES, RR = dtype(G.result), rtype(G.result)
@@ -561,7 +565,7 @@ class Walk:
     def slice(w, dest, r, to):
         """the local array as a slice: its address and how many it has"""
         c = w.c; n = w.loc[r]['of']; m = w.owned[n][2]
-        w.line(f'assigns ! (agg ! (and-then ! {w.look(r)} (and-then ! (lit ! tt) (no-more !)))) ' + to('init', '(tt, (tt, (record { fits = lit< tt }, tt)))'))
+        w.line(f'assigns ! (agg ! (and-then ! {w.look(r)} (and-then ! {lit(("int", 64, m))} (no-more !)))) ' + to('init', '(tt, (tt, (record { fits = lit< tt }, tt)))'))
         w.line(f'rewrite ! {c.ix(f"L-{dest}")} (λ (m : ℕ). ‵ (fat fullShare ty{dest} l{dest} 0 (sliceVal {w.spot(n)} m))) (sym {w.atom(w.len[n])}) refl $ ')
         w.loc[dest] = dict(kind='lent', of=n, mach='?')
 
@@ -909,7 +913,7 @@ ENDS
             'base.Logic': 'SProp ent sep id⊢ via fst∗ emp ex guard exI exE guardI guardE', 'base.Fml': 'Lft Share GName Fml ftrue fat froom fdies flft', 'prog.Memory': 'Memory', 'prog.Routine': 'Routine', 'prog.Wp': 'Heap Env Calls Loops Wp atReturn WpFn Tables Out afterSeq afterBlock afterTurn',
             'ghost.Atoms': 'Atoms sem', 'sound.WpLaws': 'FmC fmOf WpFn-mono', 'contract.Monad': 'Fun fact', 'contract.Running': 'givenOf tables tablesOf',
             'types.Kit': 'Given Item Sq runs params′ ‵ raw _⊛_ some later ⋆ anyQ atRet _$_ _∵_ ! qed by move keep drop use1 use2 use3 rewrite split join pick fsplit fjoin feqL feqI suffices frame await done',
-            'types.Run': 'look store init forget stop hop fld from load lit unit-lit addr of-opd bin and-then no-more assigns assigns-last land stays leaves-loop returns enter alloc1 alloc0 params1 pass1 pass0 free1 free0 exec', 'types.Part': 'agg rep whole sub look-in', 'types.Tokens': 'lft-new lft-end',
+            'types.Run': 'look store init forget stop hop fld from load lit neg-lit unit-lit addr of-opd bin and-then no-more assigns assigns-last land stays leaves-loop returns enter alloc1 alloc0 params1 pass1 pass0 free1 free0 exec', 'types.Part': 'agg rep whole sub look-in', 'types.Tokens': 'lft-new lft-end',
             'denote.RattleType': 'owns', 'denote.Laws': 'Is shows', 'denote.Memory': 'pointee', 'denote.Plain': 'Nothing uint-makes uint-vals uint-tells uint-lawful nothing-lawful', 'denote.Builtin': 'usize u8 f64 ArrayOf', 'denote.Ref': 'RefT MutRef ptr-vals mut-tells', 'denote.Array': 'Array', 'denote.Lend': 'LentAgain·as·LentRef lends-again·as·lends-ref-again comes-back·as·ref-comes-back', 'lib.Ieee': 'Float binary64',
             'denote.Slice': 'sliceTy sliceVal ShrSlice MutSlice Room slice-vals shr-slice-tells mut-slice-tells shr-slice-copy', 'denote.Signature': 'plain', 'denote.Steps': 'owned peeks heard nothing', 'denote.Triple.Entry': 'Vals onEntry', 'denote.Triple.Spec': 'Meets tripleOf',
             'denote.Triple.Statement': 'Contract Triple', 'denote.Triple.Call': 'calls-at', 'denote.Triple.Clauses': 'ensured lasts', 'denote.Triple.Table': 'entered cited',
@@ -970,7 +974,7 @@ ENDS
         for nm, its in [(f'spare{j}', [f'‵ (froom ty{k} l{k} 0)' for k in ks]) for j, ks in w.spare.items()] + [('dying', [f'‵ (fdies ty{k} l{k})' for k in range(w.n)])]:
             packed += f"\n      abbrev {nm} : List (Item 𝓤)\n      {nm} = {' ∷ '.join(its)} ∷ []\n"
         cons = ''.join(f'  abbrev C-{w.id(G.name)} : Contract 𝓤\n  C-{w.id(G.name)} = tripleOf 𝓤 H A f-{w.id(G.name)}.signature (f-{w.id(G.name)}.spec 𝓤 H A mem run)\n\n' for G in w.callees)
-        cited = '\n'.join(f'    (cited 𝓤 H (C-{w.id(G.name)} 𝓤 H (𝓖 .A) (𝓜 .mem) (𝓡 .run)) 𝓜 𝓡 code.env #{G.crate}·{w.id(G.name)} def-{w.id(G.name)}.routine code.calls-{G.crate}·{w.id(G.name)} (thm-{w.id(G.name)}.met 𝓤 H 𝓜 𝓖 𝓡))' for G in w.callees)
+        cited = '\n'.join(f'    (cited 𝓤 H (C-{w.id(G.name)} 𝓤 H (𝓖 .A) (𝓜 .mem) (𝓡 .run)) 𝓜 𝓡 code.env #{G.crate}·{w.id(G.name)} def-{w.id(G.name)}.routine code.calls-{"·".join(w.id(x) for x in [G.crate] + G.mods + [G.name])} (thm-{w.id(G.name)}.met 𝓤 H 𝓜 𝓖 𝓡))' for G in w.callees)
         out = f'''-- `{h.path}` meets its contract: a walk of its MIR that tools/walk.py wrote, cut after each call. Assumes nothing.
 USES
 
@@ -1026,7 +1030,7 @@ unfolding code.routine tablesOf
                     out = new; steps.add(x)
                     base[m] = ' '.join(f'{y}·as·w-{y}' if y == x else y for y in base[m].split())
         base = {m: {y.replace('·as·', ' as ') for y in xs.split()} for m, xs in base.items()}
-        for x in ('pack', 'unpack', 'homes-freed'): out = re.sub(r'(?<![\w·.\-′])' + x + ' !(?=[ )])', f'w-{x} !', out)
+        for x in ('pack', 'unpack', 'homes-freed', 'big-lit'): out = re.sub(r'(?<![\w·.\-′])' + x + ' !(?=[ )])', f'w-{x} !', out)
         # imports: what is named
         words = set(re.findall(r"[^\s(){};,]+", out))
         words |= {x.lstrip('.') for x in words}
@@ -1054,6 +1058,7 @@ unfolding code.routine tablesOf
         for G in w.callees:
             m = mod(G) + fpath(G); i = w.id(G.name)
             lines += [f'use {m} as f-{i}', f'use {m}.Symbol as def-{i}', f'use {m}.Symbol.{{name as #{G.crate}·{i}}}', f'use {m}.Met as thm-{i}']
+        if 'big-lit' in out: lines.append(f'use {w.plan.get("lends", f"Rattle.{h.crate}.proofs") + ".Big"}.{{big-lit as w-big-lit}}')
         if 'Packed' in out: lines.append(f'use {w.plan.get("lends", f"Rattle.{h.crate}.proofs") + ".Packs"}.{{Packed, pack as w-pack, unpack as w-unpack, homes-freed as w-homes-freed}}')
         if 'LentAgain' in out: lines.append(f'use {w.plan.get("lends", f"Rattle.{h.crate}.proofs") + ".Again"}.{{LentAgain, lends-again, comes-back}}')
         if 'LentShared' in out: lines.append(f'use {w.plan.get("lends", f"Rattle.{h.crate}.proofs") + ".Shared"}.{{LentShared, lends-shared, shared-back}}')

@@ -4,3 +4,4 @@ pub mod Shared
 pub mod Owned
 pub mod Laws
 pub mod Packs
+pub mod Big
