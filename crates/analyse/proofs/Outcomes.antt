@@ -25,12 +25,12 @@ use Rattle.statement.specs.declared.Stage.the-variants.{Analysed}
 use Rattle.tasks.specs.Given.{Parts}
 use Rattle.updates.specs.Laying.{LaidOut}
 use Rattle.clearing.specs.Zeroed.{Zeroed}
-use Rattle.survey.specs.Laid.{structureFault, Laid, Surveyed}
+use Rattle.survey.specs.Laid.{structureFault, Laid, Surveyed, Found}
 use Rattle.survey.specs.Settles.{SettlesPlain, Settles, staleOf}
 use Rattle.survey.proofs.Clearing.{Lengths, blank-of}
 use Rattle.survey.proofs.Settling.{refused-out, refused-areas, accepted-or, stale-accepted, stale-refused}
 use Rattle.survey.specs.declared.Findings.{Findings}
-use Rattle.analyse.specs.Lent.{ample}
+use Rattle.analyse.specs.Lent.{ample, lentStructure}
 use Rattle.analyse.proofs.Boundless.{same-fault}
 
 module _ (M : Matrix) (cap : ℕ) (r : Room) (f : r .floats ≡ ample) (v : r .values ≡ ample) where
@@ -141,3 +141,17 @@ module _ (M : Matrix) (cap : ℕ) (r : Room) (f : r .floats ≡ ample) (v : r .v
         gone : y .answer ≢ Accepted → us₃ ≡ analyse M cap r .areas .updates
         gone q = c ∙ ap (λ m. replicate m noUpdate ++ drop m us₂) (e ∙ sym (stale-refused (y .answer) (length us) q))
             ∙ ap (λ l. replicate (length us) noUpdate ++ l) (drop-of-length-le us₂ {i = length us} (omega (arith, same))) ∙ append-nil (replicate (length us) noUpdate) ∙ ten-refused (λ z. q (out ∙ z))
+
+-- ---- the same room, by the lengths that the areas have after a call
+
+module _ (M : Matrix) (cap long : ℕ) {p f s g t o w n p′ f′ s′ g′ t′ o′ w′ n′ : ℕ} (a : p′ ≡ p) (b : f′ ≡ f) (c : s′ ≡ s) (d : g′ ≡ g) (e : t′ ≡ t) (h : o′ ≡ o) (j : w′ ≡ w) (k : n′ ≡ n) where
+  lent-same : lentStructure p′ f′ s′ g′ t′ o′ w′ n′ long ≡ lentStructure p f s g t o w n long
+  lent-same = λ i. lentStructure (a i) (b i) (c i) (d i) (e i) (h i) (j i) (k i) long
+
+  pub found-after : {x : Findings} {permutation firsts starts groups tasks words nine : List ℕ} → Surveyed M cap (lentStructure p f s g t o w n long) x permutation firsts starts groups tasks words nine
+      → Found M cap (lentStructure p′ f′ s′ g′ t′ o′ w′ n′ long) x permutation firsts starts groups tasks nine
+  found-after {words = words} q = record { words = words; surveyed = rw lent-same q }
+
+  pub plain-before : {x : Outcome} {permutation firsts starts groups tasks top words nine : List ℕ} → SettlesPlain (analyse M cap (lentStructure p′ f′ s′ g′ t′ o′ w′ n′ long)) x permutation firsts starts groups tasks top words nine
+      → SettlesPlain (analyse M cap (lentStructure p f s g t o w n long)) x permutation firsts starts groups tasks top words nine
+  plain-before q = rw (← lent-same) q

@@ -46,7 +46,7 @@ fn accepted(n: usize, s: Findings, c: Cuts) -> Outcome
     }
 }
 
-// Over areas of any contents, of which area 10 has so long: the survey, and what the updates are laid from.
+// The areas are cleared, whatever they hold, and surveyed; area 10 is only so long.
 fn begin(
     n: usize,
     input_starts: &[usize],

@@ -3,7 +3,7 @@ use mathlib.Core.Path.{_≡_, refl, ap, _∙_}
 use mathlib.Core.Logic.{_≢_}
 use mathlib.Core.Bool.{Bool, true, false}
 use mathlib.Core.Option.{Option, none, some}
-use Prim.Native.Nat.{ℕ}
+use Prim.Native.Nat.{ℕ, _≤_}
 use native.Mathlib.Omega.{arith}
 use lib.Dec.{eqb}
 use borrow.Author.Tests.{eqb-true, eqb-false, ne-eqb}
@@ -61,3 +61,7 @@ stale-accepted a long e = rw e
 
 pub stale-refused : (a : Answer) (long : ℕ) → a ≢ Accepted → long ≡ staleOf a long
 stale-refused a long ne = rw (ne-eqb (number a) 0 (λ q. ne (zero-accepted a q)))
+
+-- so that they are there
+pub stale-fits : {k long m : ℕ} (a : Answer) → k ≡ staleOf a long → m ≡ long → k ≤ m
+stale-fits {k} {long} {m} a e q = accepted-or a (λ y. omega (arith, e, stale-accepted a long y)) (λ y. omega (arith, e, q, stale-refused a long y))
