@@ -1,3 +1,4 @@
+-- `finish::finish` meets its contract: call by call. Assumes nothing.
 use Rattle.finish.proofs.Outcomes.{there, told, over, settles-refused, settles-accepted}
 use Rattle.begin.specs.Begun.{lentAll}
 use Rattle.survey.proofs.Asking.{split-ready, split-given}

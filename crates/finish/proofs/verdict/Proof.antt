@@ -1,3 +1,4 @@
+-- `finish::verdict` meets its contract, by the answer and the least failing column. Assumes nothing.
 use Rattle.finish.specs.Filled.{before, pivot, sound}
 use Rattle.room.proofs.Short.{accepted-first}
 use Rattle.statement.specs.declared.Answer.the-variants.{WrongPivot}
