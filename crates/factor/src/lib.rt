@@ -3,8 +3,7 @@
 ghost use lib.ListN.{length};
 ghost use Rattle.statement.specs.Input.{matrix};
 ghost use Rattle.statement.specs.Calls.{factor};
-ghost use Rattle.begin.specs.Begun.{lentAll};
-ghost use Rattle.finish.specs.Filled.{FactorSettles};
+ghost use Rattle.factor.specs.Filled.{FactorSettles, lentAll};
 use begin::begin;
 use begin::entries;
 use begin::steps;

@@ -2,9 +2,9 @@
 use mathlib.Core.Path.{_≡_, refl, sym, ap, _∙_}
 use mathlib.Core.Logic.{_≢_}
 use mathlib.Core.Bool.{Bool, true, false, cond}
-use mathlib.Core.List.{List, _++_}
+use mathlib.Core.List.{List}
 use mathlib.Core.Option.{Option, none, some}
-use Prim.Native.Nat.{ℕ, _≤_, _<_}
+use Prim.Native.Nat.{ℕ, _-_, _≤_, _<_}
 use native.Mathlib.Omega.{arith}
 use lib.Dec.{ltb}
 use lib.ListN.{length, getD, replicate, length-append, List·getD-append}
@@ -32,7 +32,7 @@ use Rattle.tasks.specs.Given.{Parts}
 use Rattle.measure.specs.Sized.{measureFault}
 use Rattle.measure.proofs.Stages.{or-first, or-next}
 use Rattle.clearing.specs.Zeroed.{Zeroed}
-use Rattle.survey.specs.Laid.{structureFault, Laid}
+use Rattle.survey.specs.Laid.{structureFault}
 use Rattle.survey.specs.declared.Findings.{Findings}
 use Rattle.survey.proofs.Clearing.{Lengths, blank-of}
 use Rattle.survey.proofs.Reading.{held-is}
@@ -54,12 +54,12 @@ in-one-run none none false x none true y w rest = refl
 in-one-run none none false x none false y w rest = refl
 
 -- the permutation's area begins with it
-module _ (M : Matrix) {m : ℕ} {permutation : List ℕ} (e : permutation ≡ held m 0 (postorder.permutation (pattern M) (M .n))) where
+module _ (M : Matrix) (m : ℕ) {permutation : List ℕ} (e : permutation ≡ held m 0 (postorder.permutation (pattern M) (M .n))) where
   column : (c : ℕ) → c < M .n → getD permutation c 0 ≡ getD (postorder.permutation (pattern M) (M .n)) c 0
   column c h = ap (λ x. getD x c 0) (held-is m (postorder.permutation (pattern M) (M .n)) e) ∙ List·getD-append (postorder.permutation (pattern M) (M .n)) _ 0 c (omega (arith, length-q M))
 
   pub columns-there : M .n ≤ length permutation
-  columns-there = omega (arith, ap length (held-is m (postorder.permutation (pattern M) (M .n)) e), length-append (postorder.permutation (pattern M) (M .n)) _, length-q M)
+  columns-there = omega (arith, ap length (held-is m (postorder.permutation (pattern M) (M .n)) e), length-append (postorder.permutation (pattern M) (M .n)) (replicate (m - length (postorder.permutation (pattern M) (M .n))) 0), length-q M)
 
 module _ (M : Matrix) (cap : ℕ) (o : Order) (l : List ℕ) (e : Stop) (r : Room) where
   abbrev pub fault : Option Answer
@@ -74,7 +74,7 @@ module _ (M : Matrix) (cap : ℕ) (o : Order) (l : List ℕ) (e : Stop) (r : Roo
 
   module _ (x : Findings) (least : ℕ) {permutation firsts starts groups tasks nine : List ℕ} {values : List Float} (d : Ended M cap o l e r x least permutation firsts starts groups tasks nine values) where
     pub there : x .answer ≡ Accepted → M .n ≤ length permutation
-    there k = columns-there M {m = r .permutation} (d .go k .laid .one)
+    there k = columns-there M (r .permutation) (d .go k .laid .one)
 
     module _ (k : x .answer ≡ Accepted) where
       -- all but number 9 is passed
@@ -83,7 +83,7 @@ module _ (M : Matrix) (cap : ℕ) (o : Order) (l : List ℕ) (e : Stop) (r : Roo
 
       broken : least < M .n → WrongPivot (postorder.toOriginal permutation (record { 0 = least })) ≡ answered fault
       unfolding pivotTest test answered analysis
-      broken h = ap (λ c. WrongPivot (record { 0 = c })) (column M {m = r .permutation} (d .go k .laid .one) least h) ∙ sym (ap answered (passed ∙ (let q : pivotTest M o l e ≡ some (WrongPivot (postorder.toOriginal (analysis M .permutation) (record { 0 = least }))) = rw (← d .go k .low, lt-ltb least (M .n) h) in q)))
+      broken h = ap (λ c. WrongPivot (record { 0 = c })) (column M (r .permutation) (d .go k .laid .one) least h) ∙ sym (ap answered (passed ∙ (let q : pivotTest M o l e ≡ some (WrongPivot (postorder.toOriginal (analysis M .permutation) (record { 0 = least }))) = rw (← d .go k .low, lt-ltb least (M .n) h) in q)))
 
       calm : M .n ≤ least → fault ≡ none
       unfolding pivotTest test

@@ -1,9 +1,7 @@
 -- What laying the updates and the run ask, from what begin leaves, and what they leave in turn. Assumes nothing.
 use mathlib.Core.Path.{_≡_, refl, sym, ap, _∙_}
-use mathlib.Core.Logic.{_≢_}
 use mathlib.Core.List.{List, _∷_, _++_}
-use mathlib.Core.Option.{Option, none, some}
-use Prim.Native.Nat.{ℕ, zero, suc, _+_, _*_, _-_, _≤_, _<_}
+use Prim.Native.Nat.{ℕ, zero, suc, _+_, _-_, _≤_, _<_}
 use native.Mathlib.Omega.{arith}
 use lib.ListN.{length, getD, take, drop, replicate, length-take, length-replicate, take-append-drop}
 use lib.Seq.{getD-take, getD-drop, drop-drop, length-take-le}
@@ -14,11 +12,9 @@ use Rattle.statement.specs.Postorder as postorder
 use Rattle.statement.specs.Shape.{Shape, supernodes, parentOf}
 use Rattle.statement.specs.Supernodes.{shapeOf, updates}
 use Rattle.statement.specs.Run.{blank, start, run}
-use Rattle.statement.specs.Answers.{number}
 use Rattle.statement.specs.Areas.{held, noUpdate}
-use Rattle.statement.specs.Calls.{analysis, entryA, orderOf, stopOf, wrongPosition, stopped}
+use Rattle.statement.specs.Calls.{analysis, entryA, orderOf, stopOf, stopped}
 use Rattle.statement.specs.Demands.{Names}
-use Rattle.statement.specs.declared.Answer.{Answer}
 use Rattle.statement.specs.declared.Answer.the-variants.{Accepted}
 use Rattle.statement.specs.declared.Order.{Order}
 use Rattle.statement.specs.declared.Room.{Room}
@@ -26,10 +22,8 @@ use Rattle.statement.specs.declared.Stop.{Stop}
 use Rattle.statement.specs.declared.Update.{Update}
 use Rattle.laws.specs.Lower.{lowerValue}
 use Rattle.laws.specs.Numbered.{factored, shapeFor}
-use Rattle.laws.proofs.Analysed.{up, built, ok, size}
+use Rattle.laws.proofs.Analysed.{up, built, size}
 use Rattle.laws.proofs.Agree.{run-entries}
-use Rattle.laws.proofs.Exactly.{demand-one}
-use Rattle.laws.proofs.Listed.{order-exactly}
 use Rattle.laws.proofs.Listing.{Spans, shape-spans}
 use Rattle.laws.proofs.Ranks.{list-length, list-at}
 use Rattle.areas.proofs.Lists.{is-list}
@@ -37,7 +31,7 @@ use Rattle.areas.proofs.Held.{held-over}
 use Rattle.updates.specs.Layout.{ownersAt, parentsAt, namesAt, startsAt, rowsAt}
 use Rattle.updates.specs.Laying.{ToLay, LaidOut}
 use Rattle.step.specs.Laid as step
-use Rattle.turn.specs.Turn.{under, Due}
+use Rattle.turn.specs.Turn.{Due}
 use Rattle.turn.specs.Run.{fresh, Ran, RunReady, RunLeft}
 use Rattle.turn.proofs.Whole.{due-of, ready-of, ran-of}
 use Rattle.order.proofs.Shaped.{shape-above}
@@ -45,20 +39,11 @@ use Rattle.order.proofs.Shaped as parents
 use Rattle.ready.specs.Known.{Structured, Laid}
 use Rattle.survey.specs.declared.Findings.{Findings}
 use Rattle.survey.proofs.Reading.{fewer}
-use Rattle.begin.specs.Begun.{Prepared, Begun, Steps, zeroFloats}
-use Rattle.begin.specs.Ordered.{orderTest}
+use Rattle.survey.proofs.Settling.{accepted-or}
+use Rattle.begin.specs.Begun.{Prepared, Begun, Steps}
 use Rattle.begin.proofs.Handing.{structured, enough, entries-fit}
 use Rattle.begin.proofs.Ordering.{ordered-by}
 use Rattle.finish.specs.Filled.{ran, Ended}
-
--- ---- accepted or not
-
-pub accepted-or : {A : Type 0} (a : Answer) → (a ≡ Accepted → A) → (a ≢ Accepted → A) → A
-accepted-or {A} a yes no = go (number a) refl
-  where
-    go : (k : ℕ) → number a ≡ k → A
-    go zero e = yes (demand-one .numbers a .0 e)
-    go (suc k) e = no (λ q. absurd (omega (arith, e, ap number q)))
 
 -- ---- lists
 

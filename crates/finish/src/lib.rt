@@ -33,7 +33,8 @@ fn verdict(x: Findings, least: usize, n: usize, permutation: &[usize]) -> Answer
         return a;
     };
     if least < n {
-        return Answer::WrongPivot(original(permutation, Factored(least)));
+        let c = original(permutation, Factored(least));
+        return Answer::WrongPivot(c);
     }
     Answer::Accepted
 }

@@ -1,3 +1,4 @@
+-- `begin::begin` meets its contract: call by call. Assumes nothing.
 use Rattle.begin.proofs.Handing.{structured, enough}
 use Rattle.begin.proofs.Beginning.{refused-early, refused-late, begun}
 use Rattle.survey.proofs.Clearing.{blank-of}

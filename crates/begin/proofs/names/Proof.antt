@@ -1,3 +1,4 @@
+-- `begin::names` meets its contract, of the plain order and of the list. Assumes nothing.
 use Rattle.begin.proofs.Naming.{first-plain, first-listed}
 use borrow.Author.Needs.{needs}
 use Rattle.begin.proofs.names.Statement.{statement}

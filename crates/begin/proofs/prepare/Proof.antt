@@ -1,3 +1,4 @@
+-- `begin::prepare` meets its contract: call by call. Assumes nothing.
 use Rattle.begin.proofs.Ordering.{places-long, above, of, refused-order, front-length, names-asked, prepared}
 use Rattle.ready.proofs.Laying.{fewer}
 use Rattle.room.proofs.Short.{accepted-first}

@@ -1,3 +1,4 @@
+-- `begin::steps` meets its contract. Assumes nothing.
 use Rattle.room.proofs.Short.{accepted-first}
 use mathlib.Core.Path.{refl}
 use borrow.Author.Needs.{needs}
