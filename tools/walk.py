@@ -290,7 +290,7 @@ class Walk:
         return f'‵ (fat fullShare ty{k} l{k} 0 {w.atom(v["mach"])})' if v else f'‵ (froom ty{k} l{k} 0)'
     def canon(w):
         if w.packs(): return [f'own-{p[0]}' for p in w.slices] + [f'tok-{p[0]}' for p in w.slices] + [f'L-{k}' for k in range(w.n) if k not in w.spared] + [f'S-{j}' for j in w.spare] + ['DS']
-        return [f'own-{p[0]}' for p in w.slices] + [f'tok-{p[0]}' for p in w.slices] + [f'L-{k}' for k in range(w.n)] + [f'D-{k}' for k in range(w.n)]
+        return [f'own-{p[0]}' for p in w.slices] + [f'tok-{p[0]}' for p in w.slices] + [f'L-{k}' for k in range(w.n)] + ['DS']
     def runs(w, at): return f'runs C Λ En body.t-{at} (atRet En Post)'
     def vals(w): return ' ∷ '.join(w.mach(p) for p in w.P) + ' ∷ []'
     def toks(w): return '(' + ' ⊛ '.join([f'‵ (flft κ-{w.id(p[0])} q-{w.id(p[0])})' for p in w.slices] + ['‵ ftrue']) + ')'
@@ -645,13 +645,9 @@ class Walk:
             if w.loc.get(k) and w.loc[k]['kind'] == 'array': w.dies(k)
             elif w.loc.get(k): w.emit(f'forget ! {c.ix(f"L-{k}")} refl $ ')
         w.line('')
-        if w.packs():
-            for j, ks in w.spare.items(): w.unpack(f'S-{j}', [f'L-{k}' for k in ks])
-            w.unpack('DS', [f'D-{k}' for k in range(w.n)])
-            w.line(c.front(*sum([[f'L-{k}', f'D-{k}'] for k in range(w.n)], [])) + 'homes-freed ! En $ '); c.head(2 * w.n)
-        else:
-            for k in range(w.n): w.emit(c.front(f'L-{k}', f'D-{k}') + 'free1 ! $ '); c.head(2)
-            w.line('free0 ! $ ')
+        for j, ks in w.spare.items(): w.unpack(f'S-{j}', [f'L-{k}' for k in ks])
+        w.unpack('DS', [f'D-{k}' for k in range(w.n)])
+        w.line(c.front(*sum([[f'L-{k}', f'D-{k}'] for k in range(w.n)], [])) + 'homes-freed ! En $ '); c.head(2 * w.n)
         want = [f'tok-{p[0]}' for p in w.slices] + [f'own-{p[0]}' for p in w.slices]
         w.emit(f'keep ! ({" ∷ ".join([str(c.ix(x)) for x in want] + ["[]"])}) $ by ! (exits{w.names()})')
         # what is left gives the promise
@@ -758,6 +754,7 @@ class Walk:
         first = {f'v-{w.id(n)}': w.cur[n] for n, _, _ in w.muts}
         for n, q, t in w.carried: first[n] = w.loc[q]['val']; first[f'm-{n}'] = w.atom(w.loc[q]['mach'])
         firstf = [w.len[n] or 'refl' for n, _, _ in w.muts] + [w.loc[q]['is'] for n, q, t in w.carried] + [w.plan['begin']]
+        w.pack([f'D-{k}' for k in range(w.n)], 'DS')
         w.emit(f'keep ! ({" ∷ ".join(str(c.ix(x)) for x in w.canon())} ∷ []) $ by ! (loops{{LOCALS}})')
         w.entered = w.out + ')' * w.depth
         # the context at turn i
@@ -976,9 +973,8 @@ ENDS
         vals = w.vals()
         enter = f'needs 𝓤 _ _ (λ pre.\n      walk 𝓤 H A W mem run {args}{fact_args}pre 𝓣 {knowns})' if pre else f'via 𝓤 _ (fst∗ 𝓤 _ (emp 𝓤))\n      (walk 𝓤 H A W mem run {args}{fact_args}𝓣 {knowns})'
         packed = ''
-        if w.packs():
-            for nm, its in [(f'spare{j}', [f'‵ (froom ty{k} l{k} 0)' for k in ks]) for j, ks in w.spare.items()] + [('dying', [f'‵ (fdies ty{k} l{k})' for k in range(w.n)])]:
-                packed += f"\n      abbrev {nm} : List (Item 𝓤)\n      {nm} = {' ∷ '.join(its)} ∷ []\n"
+        for nm, its in [(f'spare{j}', [f'‵ (froom ty{k} l{k} 0)' for k in ks]) for j, ks in w.spare.items()] + [('dying', [f'‵ (fdies ty{k} l{k})' for k in range(w.n)])]:
+            packed += f"\n      abbrev {nm} : List (Item 𝓤)\n      {nm} = {' ∷ '.join(its)} ∷ []\n"
         cons = ''.join(f'  abbrev C-{w.id(G.name)} : Contract 𝓤\n  C-{w.id(G.name)} = tripleOf 𝓤 H A f-{w.id(G.name)}.signature (f-{w.id(G.name)}.spec 𝓤 H A mem run)\n\n' for G in w.callees)
         cited = '\n'.join(f'    (cited 𝓤 H (C-{w.id(G.name)} 𝓤 H (𝓖 .A) (𝓜 .mem) (𝓡 .run)) 𝓜 𝓡 code.env #{G.crate}·{w.id(G.name)} def-{w.id(G.name)}.routine code.calls-{"·".join(w.id(x) for x in [G.crate] + G.mods + [G.name])} (thm-{w.id(G.name)}.met 𝓤 H 𝓜 𝓖 𝓡))' for G in w.callees)
         out = f'''-- `{h.path}` meets its contract: a walk of its MIR that tools/walk.py wrote, cut after each call. Assumes nothing.
@@ -1060,7 +1056,7 @@ unfolding code.routine tablesOf
             l = f'use {q}specs.specs.declared.{s}.{{{s}}}' if own else f'use {q}specs.declared.{s}.{{{s}}}'
             if l not in lines: lines.append(l)
             t = f'use {q}proofs.proofs.{s}' if own else f'use {q}proofs.{s}'
-            lines += [f'{t} as T-{s}', f'{t}.Laws as L-{s}']
+            lines += [f'{t}{m} as {x}-{s}' for m, x in (('', 'T'), ('.Laws', 'L')) if f'{x}-{s}.' in out]
         for G in w.callees:
             m = mod(G) + fpath(G); i = w.id(G.name)
             lines += [f'use {m} as f-{i}', f'use {m}.Symbol as def-{i}', f'use {m}.Symbol.{{name as #{G.crate}·{i}}}', f'use {m}.Met as thm-{i}']

@@ -1,139 +1,157 @@
--- From what the survey and the split leave to what the statement says of analyse. Assumes nothing.
+-- From what the survey, the split and the laying leave to what the statement says of analyse. Assumes nothing.
 use mathlib.Core.Path.{_≡_, refl, sym, ap, _∙_}
 use mathlib.Core.Logic.{_≢_}
-use mathlib.Core.List.{List, [], map}
+use mathlib.Core.List.{List, [], _++_, append-nil}
 use mathlib.Core.Option.{Option, none, some}
-use Prim.Native.Nat.{ℕ}
-use lib.ListN.{length, replicate}
+use Prim.Native.Nat.{ℕ, zero, suc, _-_}
+use native.Mathlib.Omega.{arith}
+use lib.ListN.{length, drop, replicate, drop-of-length-le}
 use Rattle.laws.specs.Numbered.{shapeFor}
 use Rattle.statement.specs.Input.{Matrix}
 use Rattle.statement.specs.Tasks.{splitOf}
+use Rattle.statement.specs.Lists.{joined}
+use Rattle.statement.specs.Shape.{supernodes}
 use Rattle.statement.specs.Supernodes.{updates}
 use Rattle.statement.specs.Answers.{answered}
 use Rattle.statement.specs.Record.{emptyRecord}
-use Rattle.statement.specs.Areas.{Areas, held, noUpdate, flat}
+use Rattle.statement.specs.Areas.{held, noUpdate, flat}
 use Rattle.statement.specs.Calls.{analysis, settled, recordOf, areasOf, cleared, structureRoom, analyseFault, analyse}
 use Rattle.statement.specs.declared.Answer.{Answer}
 use Rattle.statement.specs.declared.Answer.the-variants.{Accepted}
 use Rattle.statement.specs.declared.Outcome.{Outcome}
-use Rattle.statement.specs.declared.Record.{Record}
 use Rattle.statement.specs.declared.Room.{Room}
+use Rattle.statement.specs.declared.Update.{Update}
 use Rattle.statement.specs.declared.Stage.the-variants.{Analysed}
 use Rattle.tasks.specs.Given.{Parts}
-use Rattle.updates.specs.Scan.{triple}
+use Rattle.updates.specs.Laying.{LaidOut}
 use Rattle.clearing.specs.Zeroed.{Zeroed}
-use Rattle.survey.specs.Laid.{structureFault, Laid}
-use Rattle.survey.specs.Settles.{Settles, Fills}
+use Rattle.survey.specs.Laid.{structureFault, Laid, Surveyed, Found}
+use Rattle.survey.specs.Settles.{SettlesPlain, Settles, staleOf}
 use Rattle.survey.proofs.Clearing.{Lengths, blank-of}
-use Rattle.survey.proofs.Settling.{map-replicate, map-held, refused-out, refused-areas}
+use Rattle.survey.proofs.Settling.{refused-out, refused-areas, accepted-or, stale-accepted, stale-refused}
 use Rattle.survey.specs.declared.Findings.{Findings}
 use Rattle.analyse.specs.Lent.{ample, lentStructure}
 use Rattle.analyse.proofs.Boundless.{same-fault}
 
--- ---- a refusal
+module _ (M : Matrix) (cap : ℕ) (r : Room) (f : r .floats ≡ ample) (v : r .values ≡ ample) where
+  -- ---- a refusal: the areas are cleared once more
 
-module _ (M : Matrix) (cap : ℕ) (r : Room) where
-  module _ (f : r .floats ≡ ample) (v : r .values ≡ ample) where
-    pub fills-refused : (x : Outcome) (a : Answer) {permutation firsts starts groups tasks top nine : List ℕ} {ten : List (List ℕ)} → x .answer ≡ a → x .«record» ≡ emptyRecord → a ≢ Accepted → a ≡ answered (structureFault M cap r)
-        → Fills (analyse M cap r) x permutation firsts starts groups tasks top nine ten
-    unfolding analyse
-    fills-refused x a e k h q = record {
-      out = refused-out _ _ _ _ x a e k h (q ∙ ap answered (same-fault M cap r f v));
-      one = λ z. absurd (h (sym e ∙ z));
-      two = λ z. absurd (h (sym e ∙ z));
-      three = λ z. absurd (h (sym e ∙ z));
-      four = λ z. absurd (h (sym e ∙ z));
-      five = λ z. absurd (h (sym e ∙ z));
-      six = λ z. absurd (h (sym e ∙ z));
-      nine-holds = λ z. absurd (h (sym e ∙ z));
-      ten-holds = λ z. absurd (h (sym e ∙ z));
+  pub plain-refused : {p₀ f₀ s₀ g₀ t₀ o₀ w₀ n₀ p f s g t o w n : List ℕ} (x : Outcome) (a : Answer) → x .answer ≡ a → x .«record» ≡ emptyRecord → a ≢ Accepted → a ≡ answered (structureFault M cap r)
+      → Zeroed p₀ f₀ s₀ g₀ t₀ o₀ w₀ n₀ p f s g t o w n → Lengths r p₀ f₀ s₀ g₀ t₀ o₀ w₀ n₀ → SettlesPlain (analyse M cap r) x p f s g t o w n
+  unfolding analyse structureRoom cleared
+  plain-refused x a e k h q z l =
+      let b = blank-of r z l in
+      let d : x ≡ analyse M cap r .returned = refused-out _ _ _ _ x a e k h (q ∙ ap answered (same-fault M cap r f v)) in
+      let c = refused-areas (structureRoom r) _ _ _ (λ j. h (sym e ∙ ap (λ y. y .answer) d ∙ j)) in
+      record {
+        out = d;
+        one = b .one ∙ sym (ap (λ a. a .permutation) c);
+        two = b .two ∙ sym (ap (λ a. a .firsts) c);
+        three = b .three ∙ sym (ap (λ a. a .starts) c);
+        four = b .four ∙ sym (ap (λ a. a .groups) c);
+        five = b .five ∙ sym (ap (λ a. a .tasks) c);
+        six = b .six ∙ sym (ap (λ a. a .top) c);
+        seven = b .seven ∙ sym (ap (λ a. a .words) c);
+        nine-holds = b .nine-holds ∙ sym (ap (λ a. a .rows) c);
+      }
+
+  -- ---- acceptance
+
+  said : structureFault M cap r ≡ none → analyse M cap r ≡ record { returned = record { answer = Accepted; «record» = recordOf Analysed M (analysis M) }; areas = areasOf (structureRoom r) (analysis M) [] }
+  unfolding analyse settled
+  said e = rw (sym (same-fault M cap r f v) ∙ e)
+
+  module _ (s : Findings) {permutation firsts starts groups tasks₁ words₁ nine : List ℕ} (l : Laid M cap r s permutation firsts starts groups tasks₁ words₁ nine) {tasks₂ top₂ tasks top : List ℕ} {t o : ℕ}
+      (p : Parts (splitOf (shapeFor M)) tasks₂ top₂ tasks top t o) (lt : length tasks₂ ≡ r .tasks) (lo : length top₂ ≡ r .top) where
+    record-is : record { state = Analysed; n = M .n; supernodes = s .supernodes; rows = s .rows; updates = s .updates; tasks = t; top = o; entries = s .entries; work = s .work } ≡ recordOf Analysed M (analysis M)
+    unfolding recordOf analysis
+    record-is = λ i. record {
+      state = Analysed;
+      n = M .n;
+      supernodes = l .many-supernodes i;
+      rows = l .many-rows i;
+      updates = l .many-updates i;
+      tasks = p .many-tasks i;
+      top = p .many-top i;
+      entries = l .entries-are i;
+      work = l .work-is i;
     }
 
-    -- ---- acceptance
+    -- the scratch words, w of them, are cleared
+    pub plain-accepted : {words : List ℕ} (x : Outcome) (w : ℕ) → x ≡ record { answer = Accepted; «record» = record { state = Analysed; n = M .n; supernodes = s .supernodes; rows = s .rows; updates = s .updates; tasks = t; top = o; entries = s .entries; work = s .work } }
+        → words ≡ replicate w 0 → w ≡ r .words → SettlesPlain (analyse M cap r) x permutation firsts starts groups tasks top words nine
+    unfolding areasOf analysis structureRoom
+    plain-accepted x w e z k =
+        let q = said (l .calm) in
+        record {
+          out = e ∙ ap (λ R. record { answer = Accepted; «record» = R }) record-is ∙ sym (ap (λ z. z .returned) q);
+          one = l .one ∙ sym (ap (λ z. z .areas .permutation) q);
+          two = l .two ∙ sym (ap (λ z. z .areas .firsts) q);
+          three = l .three ∙ sym (ap (λ z. z .areas .starts) q);
+          four = l .four ∙ sym (ap (λ z. z .areas .groups) q);
+          five = p .in-tasks ∙ ap (λ m. held m 0 (flat (splitOf (shapeFor M) .tasks))) lt ∙ sym (ap (λ z. z .areas .tasks) q);
+          six = p .in-top ∙ ap (λ m. held m 0 (splitOf (shapeFor M) .top)) lo ∙ sym (ap (λ z. z .areas .top) q);
+          seven = z ∙ ap (λ m. replicate m 0) k ∙ sym (ap (λ z. z .areas .words) q);
+          nine-holds = l .nine-holds ∙ sym (ap (λ z. z .areas .rows) q);
+        }
 
-    said : structureFault M cap r ≡ none → analyse M cap r ≡ record { returned = record { answer = Accepted; «record» = recordOf Analysed M (analysis M) }; areas = areasOf (structureRoom r) (analysis M) [] }
-    unfolding analyse settled
-    said e = rw (sym (same-fault M cap r f v) ∙ e)
+  -- ---- the walk: the updates are laid before the end, and cleared after a refusal
 
-    module _ (s : Findings) {permutation firsts starts groups tasks₁ nine : List ℕ} {ten : List (List ℕ)} (l : Laid M cap r s permutation firsts starts groups tasks₁ nine ten) {tasks₂ top₂ tasks top : List ℕ} {t o : ℕ}
-        (p : Parts (splitOf (shapeFor M)) tasks₂ top₂ tasks top t o) (lt : length tasks₂ ≡ r .tasks) (lo : length top₂ ≡ r .top) where
-      record-is : record { state = Analysed; n = M .n; supernodes = s .supernodes; rows = s .rows; updates = s .updates; tasks = t; top = o; entries = s .entries; work = s .work } ≡ recordOf Analysed M (analysis M)
-      unfolding recordOf analysis
-      record-is = λ i. record {
-        state = Analysed;
-        n = M .n;
-        supernodes = l .many-supernodes i;
-        rows = l .many-rows i;
-        updates = l .many-updates i;
-        tasks = p .many-tasks i;
-        top = p .many-top i;
-        entries = l .entries-are i;
-        work = l .work-is i;
-      }
+  module _ {x : Findings} {p₁ f₁ s₁ g₁ t₁ w₁ n₁ : List ℕ} (found : Surveyed M cap r x p₁ f₁ s₁ g₁ t₁ w₁ n₁) {ns : ℕ} (many : ns ≡ x .supernodes) {w₂ : List ℕ} {us us₂ : List Update}
+      (laid : LaidOut (M .n) ns (M .starts) (M .rows) w₁ w₂ us us₂) (long : length us ≡ r .updates) where
+    -- no supernodes, no updates
+    none-of : supernodes (shapeFor M) ≡ 0 → held (length us) noUpdate (updates (shapeFor M)) ≡ replicate (length us) noUpdate
+    unfolding held updates joined
+    none-of e = rw e (ap (λ m. replicate m noUpdate) (let q : length us - 0 ≡ length us = omega arith in q))
 
-      pub fills-accepted : (x : Outcome) → x ≡ record { answer = Accepted; «record» = record { state = Analysed; n = M .n; supernodes = s .supernodes; rows = s .rows; updates = s .updates; tasks = t; top = o; entries = s .entries; work = s .work } }
-          → Fills (analyse M cap r) x permutation firsts starts groups tasks top nine ten
-      unfolding areasOf analysis structureRoom
-      fills-accepted x e =
-          let q = said (l .calm) in
-          record {
-            out = e ∙ ap (λ R. record { answer = Accepted; «record» = R }) record-is ∙ sym (ap (λ z. z .returned) q);
-            one = λ z. l .one ∙ sym (ap (λ z. z .areas .permutation) q);
-            two = λ z. l .two ∙ sym (ap (λ z. z .areas .firsts) q);
-            three = λ z. l .three ∙ sym (ap (λ z. z .areas .starts) q);
-            four = λ z. l .four ∙ sym (ap (λ z. z .areas .groups) q);
-            five = λ z. p .in-tasks ∙ ap (λ m. held m 0 (flat (splitOf (shapeFor M) .tasks))) lt ∙ sym (ap (λ z. z .areas .tasks) q);
-            six = λ z. p .in-top ∙ ap (λ m. held m 0 (splitOf (shapeFor M) .top)) lo ∙ sym (ap (λ z. z .areas .top) q);
-            nine-holds = λ z. l .nine-holds ∙ sym (ap (λ z. z .areas .rows) q);
-            ten-holds = λ z. l .ten-holds ∙ map-held (r .updates) (updates (shapeFor M)) ∙ sym (ap (λ z. map triple (z .areas .updates)) q);
-          }
+    laid-all : x .answer ≡ Accepted → us₂ ≡ held (r .updates) noUpdate (updates (shapeFor M))
+    laid-all q = go ns refl ∙ ap (λ m. held m noUpdate (updates (shapeFor M))) long
+      where
+        go : (m : ℕ) → ns ≡ m → us₂ ≡ held (length us) noUpdate (updates (shapeFor M))
+        go zero e = laid .none e ∙ sym (none-of (sym (found .go q .many-supernodes) ∙ sym many ∙ e))
+        go (suc m) e = laid .all (omega (arith, e))
 
--- ---- the call itself
+    -- what is answered in the end is what was found
+    same-answer : x .answer ≡ analyse M cap r .returned .answer
+    unfolding analyse
+    same-answer = found .ans ∙ ap answered (same-fault M cap r f v) ∙ go (analyseFault M cap r (analysis M))
+      where
+        go : (i : Option Answer) → answered i ≡ settled (structureRoom r) i (recordOf Analysed M (analysis M)) (areasOf (structureRoom r) (analysis M) []) .returned .answer
+        go none = unfold answered settled in refl
+        go (some a) = unfold answered settled in refl
 
-module _ (M : Matrix) (cap : ℕ) (r : Room) (x : Outcome) where
-  -- the areas are cleared once more
-  pub settles-refused : {p₀ f₀ s₀ g₀ t₀ o₀ w₀ n₀ : List ℕ} {u₀ : List (List ℕ)} {p f s g t o w n : List ℕ} {u : List (List ℕ)} → x ≡ analyse M cap r .returned → x .answer ≢ Accepted
-      → Zeroed p₀ f₀ s₀ g₀ t₀ o₀ w₀ n₀ u₀ p f s g t o w n u → Lengths r p₀ f₀ s₀ g₀ t₀ o₀ w₀ n₀ u₀ → Settles (analyse M cap r) x p f s g t o w n u
-  unfolding analyse structureRoom cleared
-  settles-refused e h z l =
-      let b = blank-of r z l in
-      let q = refused-areas (structureRoom r) _ _ _ (λ k. h (ap (λ y. y .answer) e ∙ k)) in
-      record {
-        out = e;
-        one = b .one ∙ sym (ap (λ a. a .permutation) q);
-        two = b .two ∙ sym (ap (λ a. a .firsts) q);
-        three = b .three ∙ sym (ap (λ a. a .starts) q);
-        four = b .four ∙ sym (ap (λ a. a .groups) q);
-        five = b .five ∙ sym (ap (λ a. a .tasks) q);
-        six = b .six ∙ sym (ap (λ a. a .top) q);
-        seven = b .seven ∙ sym (ap (λ a. a .words) q);
-        nine-holds = b .nine-holds ∙ sym (ap (λ a. a .rows) q);
-        ten-holds = b .ten-holds ∙ sym (map-replicate (r .updates) noUpdate) ∙ sym (ap (λ a. map triple (a .updates)) q);
-      }
+    ten-accepted : analyse M cap r .returned .answer ≡ Accepted → us₂ ≡ analyse M cap r .areas .updates
+    unfolding areasOf analysis structureRoom
+    ten-accepted q = let a = same-answer ∙ q in laid-all a ∙ sym (ap (λ z. z .areas .updates) (said (found .go a .calm)))
 
-  -- the scratch words are cleared
-  pub settles-accepted : (w₀ : List ℕ) {p f s g t o w n : List ℕ} {u : List (List ℕ)} → x .answer ≡ Accepted → Fills (analyse M cap r) x p f s g t o n u → w ≡ replicate (length w₀) 0 → length w₀ ≡ r .words → Settles (analyse M cap r) x p f s g t o w n u
-  unfolding analyse structureRoom areasOf
-  settles-accepted w₀ k f e l = record {
-    out = f .out;
-    one = f .one k;
-    two = f .two k;
-    three = f .three k;
-    four = f .four k;
-    five = f .five k;
-    six = f .six k;
-    seven = e ∙ ap (λ m. replicate m 0) l ∙ sym (scratch (analyseFault M cap r (analysis M)) _ _ refl);
-    nine-holds = f .nine-holds k;
-    ten-holds = f .ten-holds k;
-  }
-    where
-      scratch : (f : Option Answer) (R : Record) (X : Areas) → X .words ≡ replicate (r .words) 0 → settled (structureRoom r) f R X .areas .words ≡ replicate (r .words) 0
-      scratch none R X e = unfold settled in e
-      scratch (some a) R X e = unfold settled cleared structureRoom in refl
+    ten-refused : analyse M cap r .returned .answer ≢ Accepted → replicate (length us) noUpdate ≡ analyse M cap r .areas .updates
+    unfolding analyse structureRoom cleared
+    ten-refused q = ap (λ m. replicate m noUpdate) long ∙ sym (ap (λ a. a .updates) (refused-areas (structureRoom r) (analyseFault M cap r (analysis M)) _ _ q))
 
--- the same room, however the lengths were come by
-pub lent-same : {p f s g t o w n u p′ f′ s′ g′ t′ o′ w′ n′ u′ : ℕ} → p ≡ p′ → f ≡ f′ → s ≡ s′ → g ≡ g′ → t ≡ t′ → o ≡ o′ → w ≡ w′ → n ≡ n′ → u ≡ u′ → lentStructure p f s g t o w n u ≡ lentStructure p′ f′ s′ g′ t′ o′ w′ n′ u′
-lent-same a b c d e f g h k = λ i. lentStructure (a i) (b i) (c i) (d i) (e i) (f i) (g i) (h i) (k i)
+    pub settles : {p f s g t o w n : List ℕ} {y : Outcome} {k : ℕ} {us₃ : List Update} → SettlesPlain (analyse M cap r) y p f s g t o w n → length us₂ ≡ length us
+        → k ≡ staleOf (y .answer) (length us) → us₃ ≡ replicate k noUpdate ++ drop k us₂ → Settles (analyse M cap r) y p f s g t o w n us₃
+    settles {y = y} {k} {us₃} h same e c = record { plain = h; ten-holds = accepted-or (y .answer) kept gone }
+      where
+        out : y .answer ≡ analyse M cap r .returned .answer
+        out = ap (λ z. z .answer) (h .out)
 
-pub fills-at : (M : Matrix) (cap : ℕ) {r r′ : Room} {x : Outcome} {p f s g t o n : List ℕ} {u : List (List ℕ)} → r ≡ r′ → Fills (analyse M cap r) x p f s g t o n u → Fills (analyse M cap r′) x p f s g t o n u
-fills-at M cap e h = rw e at h
+        kept : y .answer ≡ Accepted → us₃ ≡ analyse M cap r .areas .updates
+        kept q = c ∙ ap (λ m. replicate m noUpdate ++ drop m us₂) (e ∙ sym (stale-accepted (y .answer) (length us) q)) ∙ ten-accepted (sym out ∙ q)
+
+        gone : y .answer ≢ Accepted → us₃ ≡ analyse M cap r .areas .updates
+        gone q = c ∙ ap (λ m. replicate m noUpdate ++ drop m us₂) (e ∙ sym (stale-refused (y .answer) (length us) q))
+            ∙ ap (λ l. replicate (length us) noUpdate ++ l) (drop-of-length-le us₂ {i = length us} (omega (arith, same))) ∙ append-nil (replicate (length us) noUpdate) ∙ ten-refused (λ z. q (out ∙ z))
+
+-- ---- the same room, by the lengths that the areas have after a call
+
+module _ (M : Matrix) (cap long : ℕ) {p f s g t o w n p′ f′ s′ g′ t′ o′ w′ n′ : ℕ} (a : p′ ≡ p) (b : f′ ≡ f) (c : s′ ≡ s) (d : g′ ≡ g) (e : t′ ≡ t) (h : o′ ≡ o) (j : w′ ≡ w) (k : n′ ≡ n) where
+  lent-same : lentStructure p′ f′ s′ g′ t′ o′ w′ n′ long ≡ lentStructure p f s g t o w n long
+  lent-same = λ i. lentStructure (a i) (b i) (c i) (d i) (e i) (h i) (j i) (k i) long
+
+  pub found-after : {x : Findings} {permutation firsts starts groups tasks words nine : List ℕ} → Surveyed M cap (lentStructure p f s g t o w n long) x permutation firsts starts groups tasks words nine
+      → Found M cap (lentStructure p′ f′ s′ g′ t′ o′ w′ n′ long) x permutation firsts starts groups tasks nine
+  found-after {words = words} q = record { words = words; surveyed = rw lent-same q }
+
+  pub plain-before : {x : Outcome} {permutation firsts starts groups tasks top words nine : List ℕ} → SettlesPlain (analyse M cap (lentStructure p′ f′ s′ g′ t′ o′ w′ n′ long)) x permutation firsts starts groups tasks top words nine
+      → SettlesPlain (analyse M cap (lentStructure p f s g t o w n long)) x permutation firsts starts groups tasks top words nine
+  plain-before q = rw (← lent-same) q

@@ -3,21 +3,26 @@ ghost use mathlib.Core.Path.{_≡_};
 ghost use lib.ListN.{length};
 ghost use Rattle.statement.specs.Input.{matrix};
 ghost use Rattle.statement.specs.Calls.{analyse};
-ghost use Rattle.survey.specs.Laid.{Blank};
-ghost use Rattle.survey.specs.Settles.{Settles, Fills};
-ghost use Rattle.analyse.specs.Lent.{lentStructure, ample};
+ghost use Rattle.survey.specs.Laid.{Surveyed, Found};
+ghost use Rattle.survey.specs.Settles.{SettlesPlain, Settles};
+ghost use Rattle.analyse.specs.Lent.{lentStructure};
 use answers::refused;
 use areas::clear_words;
 use clearing::clear_structure;
+use listing::lay;
 use statement::Answer;
 use statement::Outcome;
 use statement::Record;
 use statement::Room;
 use statement::Stage;
+use statement::Update;
 use survey::Findings;
+use survey::stale;
+use survey::supernodes;
 use survey::survey;
 use tasks::Cuts;
 use tasks::split;
+use update::clear;
 
 // More room than any well-formed matrix needs: analyse has no areas 8 and 11, so that these are never short.
 const AMPLE: usize = 1099511627776;
@@ -41,14 +46,14 @@ fn accepted(n: usize, s: Findings, c: Cuts) -> Outcome
     }
 }
 
-// Over areas that are zero; what a refusal leaves in them is not said.
-fn analyse_in(
+// The areas are cleared, whatever they hold, and surveyed; area 10 is only so long.
+fn begin(
     n: usize,
     input_starts: &[usize],
     input_rows: &[usize],
     input_values: &[f64],
     cap: usize,
-    room: Room,
+    long: usize,
     permutation: &mut [usize],
     firsts: &mut [usize],
     starts: &mut [usize],
@@ -57,13 +62,24 @@ fn analyse_in(
     top: &mut [usize],
     words: &mut [usize],
     rows: &mut [usize],
-    updates: &mut [[usize; 3]],
-) -> Outcome
-    requires { ⌜ Blank room (now permutation) (now firsts) (now starts) (now groups) (now tasks) (now top) (now words) (now rows) (now updates) ⌝ }
-    requires { ⌜ (room .floats ≡ ample) × (room .values ≡ ample) ⌝ }
-    ensures { λ x. ⌜ Fills (analyse (matrix n (now («input_starts» .entry)) (now («input_rows» .entry)) (now («input_values» .entry))) cap room) x (now (permutation .exit)) (now (firsts .exit)) (now (starts .exit)) (now (groups .exit)) (now (tasks .exit)) (now (top .exit)) (now (rows .exit)) (now (updates .exit)) ⌝ }
+) -> Findings
+    ensures { λ x. ⌜ Surveyed (matrix n (now («input_starts» .entry)) (now («input_rows» .entry)) (now («input_values» .entry))) cap (lentStructure (length (now (permutation .entry))) (length (now (firsts .entry))) (length (now (starts .entry))) (length (now (groups .entry))) (length (now (tasks .entry))) (length (now (top .entry))) (length (now (words .entry))) (length (now (rows .entry))) long) x (now (permutation .exit)) (now (firsts .exit)) (now (starts .exit)) (now (groups .exit)) (now (tasks .exit)) (now (words .exit)) (now (rows .exit)) ⌝ }
 {
-    let s = survey(
+    let room = Room {
+        permutation: permutation.len(),
+        firsts: firsts.len(),
+        starts: starts.len(),
+        groups: groups.len(),
+        tasks: tasks.len(),
+        top: top.len(),
+        words: words.len(),
+        floats: AMPLE,
+        rows: rows.len(),
+        updates: long,
+        values: AMPLE,
+    };
+    clear_structure(permutation, firsts, starts, groups, tasks, top, words, rows);
+    survey(
         n,
         input_starts,
         input_rows,
@@ -78,14 +94,39 @@ fn analyse_in(
         top,
         words,
         rows,
-        updates,
-    );
-    let a = s.answer;
+    )
+}
+
+// Accepted: the tasks, and zeros in the scratch words. Refused: an empty record, and zeros in every area. The input, cap and
+// long only name the call.
+fn finish(
+    x: Findings,
+    n: usize,
+    input_starts: &[usize],
+    input_rows: &[usize],
+    input_values: &[f64],
+    cap: usize,
+    long: usize,
+    permutation: &mut [usize],
+    firsts: &mut [usize],
+    starts: &mut [usize],
+    groups: &mut [usize],
+    tasks: &mut [usize],
+    top: &mut [usize],
+    words: &mut [usize],
+    rows: &mut [usize],
+) -> Outcome
+    requires { ⌜ Found (matrix n (now «input_starts») (now «input_rows») (now «input_values»)) cap (lentStructure (length (now permutation)) (length (now firsts)) (length (now starts)) (length (now groups)) (length (now tasks)) (length (now top)) (length (now words)) (length (now rows)) long) x (now permutation) (now firsts) (now starts) (now groups) (now tasks) (now rows) ⌝ }
+    ensures { λ r. ⌜ SettlesPlain (analyse (matrix n (now («input_starts» .entry)) (now («input_rows» .entry)) (now («input_values» .entry))) cap (lentStructure (length (now (permutation .entry))) (length (now (firsts .entry))) (length (now (starts .entry))) (length (now (groups .entry))) (length (now (tasks .entry))) (length (now (top .entry))) (length (now (words .entry))) (length (now (rows .entry))) long)) r (now (permutation .exit)) (now (firsts .exit)) (now (starts .exit)) (now (groups .exit)) (now (tasks .exit)) (now (top .exit)) (now (words .exit)) (now (rows .exit)) ⌝ }
+{
+    let a = x.answer;
     let Answer::Accepted = a else {
+        clear_structure(permutation, firsts, starts, groups, tasks, top, words, rows);
         return refused(a);
     };
-    let c = split(n, s.supernodes, firsts, starts, tasks, top, words);
-    accepted(n, s, c)
+    let c = split(n, x.supernodes, firsts, starts, tasks, top, words);
+    clear_words(words);
+    accepted(n, x, c)
 }
 
 // The structure of the factor of a matrix with n columns, if it has at most cap entries. Refused: an empty record, and
@@ -104,41 +145,18 @@ pub fn analyse(
     top: &mut [usize],
     words: &mut [usize],
     rows: &mut [usize],
-    updates: &mut [[usize; 3]],
+    updates: &mut [Update],
 ) -> Outcome
     ensures { λ x. ⌜ Settles (analyse (matrix n (now («input_starts» .entry)) (now («input_rows» .entry)) (now («input_values» .entry))) cap (lentStructure (length (now (permutation .entry))) (length (now (firsts .entry))) (length (now (starts .entry))) (length (now (groups .entry))) (length (now (tasks .entry))) (length (now (top .entry))) (length (now (words .entry))) (length (now (rows .entry))) (length (now (updates .entry))))) x (now (permutation .exit)) (now (firsts .exit)) (now (starts .exit)) (now (groups .exit)) (now (tasks .exit)) (now (top .exit)) (now (words .exit)) (now (rows .exit)) (now (updates .exit)) ⌝ }
 {
-    clear_structure(
-        permutation,
-        firsts,
-        starts,
-        groups,
-        tasks,
-        top,
-        words,
-        rows,
-        updates,
-    );
-    let room = Room {
-        permutation: permutation.len(),
-        firsts: firsts.len(),
-        starts: starts.len(),
-        groups: groups.len(),
-        tasks: tasks.len(),
-        top: top.len(),
-        words: words.len(),
-        floats: AMPLE,
-        rows: rows.len(),
-        updates: updates.len(),
-        values: AMPLE,
-    };
-    let x = analyse_in(
+    let long = updates.len();
+    let x = begin(
         n,
         input_starts,
         input_rows,
         input_values,
         cap,
-        room,
+        long,
         permutation,
         firsts,
         starts,
@@ -147,23 +165,37 @@ pub fn analyse(
         top,
         words,
         rows,
+    );
+    let ns = supernodes(x);
+    lay(
+        ns,
+        n,
+        input_starts,
+        input_rows,
+        firsts,
+        starts,
+        rows,
+        words,
         updates,
     );
-    let a = x.answer;
-    let Answer::Accepted = a else {
-        clear_structure(
-            permutation,
-            firsts,
-            starts,
-            groups,
-            tasks,
-            top,
-            words,
-            rows,
-            updates,
-        );
-        return x;
-    };
-    clear_words(words);
-    x
+    let r = finish(
+        x,
+        n,
+        input_starts,
+        input_rows,
+        input_values,
+        cap,
+        long,
+        permutation,
+        firsts,
+        starts,
+        groups,
+        tasks,
+        top,
+        words,
+        rows,
+    );
+    let k = stale(r, long);
+    clear(updates, k);
+    r
 }

@@ -76,16 +76,15 @@ module _ (s : ℕ → ℕ → Bool) (n entries : ℕ) (r : Room) where
       go false false q e = ltb-false _ _ q
 
   -- a refusal promises nothing of the areas
-  pub refused-is : {answer : Answer} {ns rows updates : ℕ} {permutation₀ firsts₀ starts₀ groups₀ tasks₀ nine₀ : List ℕ} {ten₀ : List (List ℕ)} {permutation firsts starts groups tasks words nine : List ℕ} {ten : List (List ℕ)}
+  pub refused-is : {answer : Answer} {ns rows updates : ℕ} {permutation₀ firsts₀ starts₀ groups₀ tasks₀ nine₀ : List ℕ} {permutation firsts starts groups tasks words nine : List ℕ}
       → answer ≡ answered (short (laterNeeds s n entries r)) → answer ≢ Accepted
-      → Analysed s n entries r answer ns rows updates permutation₀ firsts₀ starts₀ groups₀ tasks₀ nine₀ ten₀ permutation firsts starts groups tasks words nine ten
+      → Analysed s n entries r answer ns rows updates permutation₀ firsts₀ starts₀ groups₀ tasks₀ nine₀ permutation firsts starts groups tasks words nine
   refused-is e ne = record {
     answers = e;
     numbered = λ q. absurd (ne q);
     count = λ q. absurd (ne q);
     four = λ q. absurd (ne q);
     area-nine = λ q. absurd (ne q);
-    area-ten = λ q. absurd (ne q);
   }
 
 pub short-not : (area need : ℕ) → ShortArea area need ≢ Accepted

@@ -1,7 +1,7 @@
 -- What each phase of the analysis leaves in the areas. Definitions only.
 use mathlib.Core.Path.{_≡_}
 use mathlib.Core.Bool.{Bool}
-use mathlib.Core.List.{List, [], _∷_, _++_, map}
+use mathlib.Core.List.{List, [], _∷_, _++_}
 use Prim.Native.Nat.{ℕ, suc, _+_, _≤_}
 use lib.ListN.{length, getD, take, drop, replicate}
 use Rattle.statement.specs.Lists.{list}
@@ -19,7 +19,6 @@ use Rattle.laws.specs.Numbered.{shape}
 use Rattle.laws.proofs.Postorder.{pos}
 use Rattle.areas.specs.Buckets.{Holds}
 use Rattle.structure.specs.Line.{Known, Given}
-use Rattle.updates.specs.Scan.{triple}
 
 -- room for numbering, and for the supernodal parents past the places
 pub record Enough (n : ℕ) (permutation firsts starts groups tasks top words : List ℕ) : Type 0 where
@@ -51,12 +50,11 @@ pub record Placed (n ns : ℕ) (input-starts input-rows permutation firsts start
 abbrev pub laterNeeds : (ℕ → ℕ → Bool) → ℕ → ℕ → Room → List Need
 laterNeeds s n entries r = (rowsNeed (length (shape s n .rows)) r ∷ updatesNeed (length (supernodal.updates (shape s n))) r ∷ []) ++ (valuesNeed entries r ∷ [])
 
--- what is answered; and where that is `Accepted`, the numbers of supernodes, rows and updates, and each area but scratch and top
-pub record Analysed (s : ℕ → ℕ → Bool) (n entries : ℕ) (r : Room) (answer : Answer) (ns rows updates : ℕ) (permutation₀ firsts₀ starts₀ groups₀ tasks₀ nine₀ : List ℕ) (ten₀ : List (List ℕ))
-    (permutation firsts starts groups tasks words nine : List ℕ) (ten : List (List ℕ)) : Type 0 where
+-- what is answered; and where that is `Accepted`, the numbers of supernodes, rows and updates, and each area but top, with the supernode of each column in the words
+pub record Analysed (s : ℕ → ℕ → Bool) (n entries : ℕ) (r : Room) (answer : Answer) (ns rows updates : ℕ) (permutation₀ firsts₀ starts₀ groups₀ tasks₀ nine₀ : List ℕ)
+    (permutation firsts starts groups tasks words nine : List ℕ) : Type 0 where
   pub answers : answer ≡ answered (short (laterNeeds s n entries r))
   pub numbered : answer ≡ Accepted → Numbered s n ns rows permutation₀ firsts₀ starts₀ tasks₀ permutation firsts starts tasks words
   pub count : answer ≡ Accepted → updates ≡ length (supernodal.updates (shape s n))
   pub four : answer ≡ Accepted → groups ≡ supernodal.updateStarts (shape s n) ++ drop (suc ns) (replicate (length groups₀) 0)
   pub area-nine : answer ≡ Accepted → nine ≡ shape s n .rows ++ drop (length (shape s n .rows)) nine₀
-  pub area-ten : answer ≡ Accepted → ten ≡ map triple (supernodal.updates (shape s n)) ++ drop (length (supernodal.updates (shape s n))) ten₀

@@ -1,5 +1,5 @@
 // From the tree and the counts to the structure of the factor, phase by phase over the areas: the permutation, the
-// supernodes, their rows and the updates.
+// supernodes, their rows and where the updates start.
 ghost use mathlib.Core.Path.{_≡_};
 ghost use mathlib.Core.Bool.{false};
 ghost use mathlib.Core.List.{[], _∷_, _++_};
@@ -21,7 +21,6 @@ use statement::Room;
 use structure::node_starts;
 use structure::structure;
 use updates::update_starts;
-use updates::updates;
 
 // The numbers of supernodes and of structure rows.
 struct Sizes {
@@ -170,8 +169,8 @@ fn refused(answer: Answer) -> Counts
     }
 }
 
-// The structure of the factor, from the tree in top and the counts in groups; L is to have so many entries. top and words
-// are scratch afterwards.
+// The structure of the factor, from the tree in top and the counts in groups; L is to have so many entries. Afterwards words
+// has the supernode of each column, and top is scratch.
 pub fn build(
     n: usize,
     entries: usize,
@@ -186,13 +185,12 @@ pub fn build(
     top: &mut [usize],
     words: &mut [usize],
     rows: &mut [usize],
-    triples: &mut [[usize; 3]],
 ) -> Counts
     requires { ⌜ (Columns n (now «input_starts») (now «input_rows»)) × (n ≤ 32768) ⌝ }
     requires { ⌜ Enough n (now permutation) (now firsts) (now starts) (now groups) (now tasks) (now top) (now words) ⌝ }
     requires { ⌜ (take n (now top) ≡ list (parent (stored (now «input_starts») (now «input_rows»)) n) n) × (take n (now groups) ≡ list (count (stored (now «input_starts») (now «input_rows»)) n) n) ⌝ }
-    requires { ⌜ (room .rows ≡ length (now rows)) × (room .updates ≡ length (now triples)) ⌝ }
-    ensures { λ r. ⌜ Analysed (stored (now («input_starts» .entry)) (now («input_rows» .entry))) n entries room (r .answer) (r .supernodes) (r .rows) (r .updates) (now (permutation .entry)) (now (firsts .entry)) (now (starts .entry)) (now (groups .entry)) (now (tasks .entry)) (now (rows .entry)) (now (triples .entry)) (now (permutation .exit)) (now (firsts .exit)) (now (starts .exit)) (now (groups .exit)) (now (tasks .exit)) (now (words .exit)) (now (rows .exit)) (now (triples .exit)) ⌝ }
+    requires { ⌜ room .rows ≡ length (now rows) ⌝ }
+    ensures { λ r. ⌜ Analysed (stored (now («input_starts» .entry)) (now («input_rows» .entry))) n entries room (r .answer) (r .supernodes) (r .rows) (r .updates) (now (permutation .entry)) (now (firsts .entry)) (now (starts .entry)) (now (groups .entry)) (now (tasks .entry)) (now (rows .entry)) (now (permutation .exit)) (now (firsts .exit)) (now (starts .exit)) (now (groups .exit)) (now (tasks .exit)) (now (words .exit)) (now (rows .exit)) ⌝ }
 {
     let sizes = numbered(
         n,
@@ -230,19 +228,6 @@ pub fn build(
     let Answer::Accepted = r else {
         return refused(r);
     };
-    updates(
-        n,
-        ns,
-        input_starts,
-        input_rows,
-        firsts,
-        words,
-        starts,
-        rows,
-        groups,
-        top,
-        triples,
-    );
     Counts {
         answer: Answer::Accepted,
         supernodes: ns,

@@ -1,15 +1,11 @@
 -- Areas that are zero over their whole length. Definitions only.
 use mathlib.Core.Path.{_≡_}
-use mathlib.Core.List.{List, [], _∷_}
+use mathlib.Core.List.{List}
 use Prim.Native.Nat.{ℕ}
 use lib.ListN.{length, replicate}
 
--- an update's three words, as the core holds them
-abbrev pub noTriple : List ℕ
-noTriple = 0 ∷ 0 ∷ 0 ∷ []
-
--- areas 1 to 7, 9 and 10, before (₀) and after
-pub record Zeroed (permutation₀ firsts₀ starts₀ groups₀ tasks₀ top₀ words₀ rows₀ : List ℕ) (updates₀ : List (List ℕ)) (permutation firsts starts groups tasks top words rows : List ℕ) (updates : List (List ℕ)) : Type 0 where
+-- areas 1 to 7 and 9, before (₀) and after
+pub record Zeroed (permutation₀ firsts₀ starts₀ groups₀ tasks₀ top₀ words₀ rows₀ permutation firsts starts groups tasks top words rows : List ℕ) : Type 0 where
   pub one : permutation ≡ replicate (length permutation₀) 0
   pub two : firsts ≡ replicate (length firsts₀) 0
   pub three : starts ≡ replicate (length starts₀) 0
@@ -18,4 +14,3 @@ pub record Zeroed (permutation₀ firsts₀ starts₀ groups₀ tasks₀ top₀ 
   pub six : top ≡ replicate (length top₀) 0
   pub seven : words ≡ replicate (length words₀) 0
   pub nine : rows ≡ replicate (length rows₀) 0
-  pub ten : updates ≡ replicate (length updates₀) noTriple

@@ -25,6 +25,12 @@ use Rattle.laws.proofs.Bools.{eqb-yes, eqb-no, ltb-yes, ltb-no}
 use Rattle.laws.proofs.Names.{length-rising, names-good, in-order}
 use Rattle.order.specs.Waiting.{Above, Of, names, waited, waits, wrongAt}
 
+pub rising-at : (a k i : ℕ) → i < k → getD (rising a k) i 0 ≡ a + i
+unfolding rising
+rising-at a zero i h = absurd (omega arith)
+rising-at a (suc k) zero h = sym (add-zero a)
+rising-at a (suc k) (suc i) h = omega (arith, rising-at (suc a) k i (omega arith))
+
 module _ (S : Shape) (p : List ℕ) (ns : ℕ) (above : Above p ns) (of : Of S p ns) where
   -- the first M are ready exactly when none of them is waited for
   ready-none : (a : List ℕ) (J M : ℕ) → M ≤ ns → ready S a J M ≡ eqb (tally (waited p a J) M) 0
@@ -95,12 +101,6 @@ module _ (S : Shape) (p : List ℕ) (ns : ℕ) (above : Above p ns) (of : Of S p
 
       pub fault-none : {r : ℕ} → r ≡ least (wrongAt p ns l) 0 ns → ns ≤ r → orderFault S l t ≡ none
       fault-none {r} q k = fault-at q ∙ rw (ltb-no {m = r} {n = ns} k)
-
-  rising-at : (a k i : ℕ) → i < k → getD (rising a k) i 0 ≡ a + i
-  unfolding rising
-  rising-at a zero i h = absurd (omega arith)
-  rising-at a (suc k) zero h = sym (add-zero a)
-  rising-at a (suc k) (suc i) h = omega (arith, rising-at (suc a) k i (omega arith))
 
   -- the plain order names each once, children before parents
   plain-names : Names S (plain S)

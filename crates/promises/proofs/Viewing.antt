@@ -19,6 +19,7 @@ use Rattle.statement.specs.Solve.{FactorAreas, shapeIn, permutes, viewable, sol
 use Rattle.statement.specs.declared.Record.{Record}
 use Rattle.statement.specs.declared.Room.{Room}
 use Rattle.statement.specs.declared.Stage.the-variants.{Full}
+use Rattle.panel.specs.View.{columnOf}
 use Rattle.laws.specs.Numbered.{factored, shape}
 use Rattle.laws.specs.Built.{Built}
 use Rattle.laws.proofs.Analysed as analysed
@@ -35,7 +36,7 @@ sub-take (suc a) b zero l h = absurd (omega arith)
 sub-take (suc a) b (suc m) [] h = refl
 sub-take (suc a) b (suc m) (x ∷ l) h = sub-take a b m l (omega arith)
 
-held-front : {A : Type 0} (m k : ℕ) (z : A) (part : List A) → k ≡ length part → take k (held m z part) ≡ part
+pub held-front : {A : Type 0} (m k : ℕ) (z : A) (part : List A) → k ≡ length part → take k (held m z part) ≡ part
 unfolding held
 held-front m k z part e = ap (λ x. take x (part ++ replicate (m - length part) z)) e ∙ take-append-seam part _
 
@@ -104,7 +105,7 @@ module _ (M : Matrix) (w : WellFormed M) (r : Room) where
           (ap length (rows-in (bare S) (b .rise) K c h l ∙ ap (drop c) (rows-bare S K)) ∙ length-drop c (rowsOf S K))
           (start-in (bare S) (b .rise) K c h l ∙ ap₂ (λ (x : ℕ) (y : List ℕ). x + trapezoid (length y) c) (offset-bare S K) (rows-bare S K))
 
-      cut : take (height S K - c) (drop (trapezoid (height S K) c) (stretch S (take (entries (pattern M) (M .n)) (f .values)) K)) ≡ take (height S K - c) (drop (offset S K + trapezoid (height S K) c) (f .values))
+      cut : columnOf (height S K) (stretch S (take (entries (pattern M) (M .n)) (f .values)) K) c ≡ take (height S K - c) (drop (offset S K + trapezoid (height S K) c) (f .values))
       unfolding stretch size
       cut =
           let m = height S K - c in
@@ -114,6 +115,6 @@ module _ (M : Matrix) (w : WellFormed M) (r : Room) where
           ∙ ap (take m) (drop-drop t (offset S K) v)
           ∙ sub-take (offset S K + t) m (entries (pattern M) (M .n)) (f .values) (omega (arith, fits-in (height S K) (width S K) c l, offset-suc S K, offset-mono S (supernodes S) (suc K) h, analysed.size M w))
 
-      pub view-of : view R f (record { 0 = first S K + c }) ≡ take (height S K - c) (drop (trapezoid (height S K) c) (stretch S (take (entries (pattern M) (M .n)) (f .values)) K))
+      pub view-of : view R f (record { 0 = first S K + c }) ≡ columnOf (height S K) (stretch S (take (entries (pattern M) (M .n)) (f .values)) K) c
       unfolding view
       view-of = rw (can, lt-ltb (first S K + c) (R .n) below) (ap (λ S. valuesIn S (f .values) (first (shape (pattern M) (M .n)) K + c)) back ∙ in-stretch ∙ sym cut)

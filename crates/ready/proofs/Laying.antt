@@ -25,7 +25,8 @@ use Rattle.lower.specs.Entries.{Lowered, Sited}
 use Rattle.lower.proofs.Bridge.{sited}
 use Rattle.offsets.specs.Lent.{Rising, Of}
 use Rattle.offsets.proofs.Shaped.{shape-of, shape-rising}
-use Rattle.ready.specs.Known.{Known, Laid, offsetsAt, parentsAt, startsAt, rowsAt}
+use Rattle.updates.specs.Layout.{offsetsAt, parentsAt, startsAt, rowsAt}
+use Rattle.ready.specs.Known.{Known, Laid, Kept}
 use Rattle.ready.proofs.Wrote.{Wrote, wrote, wrote-part, wrote-above}
 
 -- a part has room for what is not past its end
@@ -135,3 +136,9 @@ module _ {M : Matrix} {ns : ℕ} {permutation firsts starts tasks : List ℕ} (k
       parents = λ K h. wrote-above fourth (parentsAt (M .n) + K) (omega (arith, flags-long)) ∙ third .at K (omega (arith, copied-long)) ∙ parent-at K h;
       lower = rw (lower-stays, rows-stay) a;
     }
+
+    first-below : (i : ℕ) → i < startsAt (M .n) → getD (w₁ (M .n) w lower) i 0 ≡ getD w i 0
+    first-below i h = ap (λ z. getD z i 0) (tail-back (startsAt (M .n)) w lower) ∙ List·getD-append (take (startsAt (M .n)) w) lower 0 i (omega (arith, length-take-le (startsAt (M .n)) w (omega arith))) ∙ getD-take (startsAt (M .n)) w i 0 h
+
+    pub kept : Kept (M .n) w l
+    kept i a b = wrote-above fourth i (omega (arith, flags-long)) ∙ third .below i (omega arith) ∙ second .below i b ∙ first-below i (omega arith)

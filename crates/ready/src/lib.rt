@@ -2,14 +2,14 @@
 ghost use Prim.Native.Nat.{_+_, _*_, _≤_};
 ghost use lib.ListN.{length};
 ghost use Rattle.statement.specs.Input.{matrix};
-ghost use Rattle.ready.specs.Known.{Known, Laid};
+ghost use Rattle.ready.specs.Known.{Known, Laid, Kept};
 use areas::copy_part;
 use areas::fill_part;
 use lower::lower;
 use offsets::offsets;
 
-// The first n + 1 words are the flags; from 2n + 1 on stand the offsets, from 3n + 1 the supernodal parents, from 4n + 1 the starts of
-// A's lower columns and from 5n + 2 their rows. A's values are the first floats. top is scratch.
+// The first n + 1 words are the flags; from 6n + 1 on stand the offsets, from 7n + 1 the supernodal parents, from 9n + 1 the starts of
+// A's lower columns and from 10n + 2 their rows. A's values are the first floats. top is scratch.
 pub fn ready(
     n: usize,
     ns: usize,
@@ -27,9 +27,10 @@ pub fn ready(
     requires { ⌜ Known (matrix n (now «input_starts») (now «input_rows») (now «input_values»)) ns (now permutation) (now firsts) (now starts) (now tasks) ⌝ }
     requires { ⌜ (n ≤ length (now top)) × (24 * n + length (now «input_rows») + 24 ≤ length (now words)) × (length (now «input_rows») + n ≤ length (now floats)) ⌝ }
     ensures { λ _. ⌜ Laid (matrix n (now («input_starts» .entry)) (now («input_rows» .entry)) (now («input_values» .entry))) ns (now (words .exit)) (now (floats .exit)) ⌝ }
+    ensures { λ _. ⌜ Kept n (now (words .entry)) (now (words .exit)) ⌝ }
 {
     let a = input_rows.len();
-    let ab = 4 * n + 1;
+    let ab = 9 * n + 1;
     lower(
         n,
         input_starts,
@@ -41,9 +42,9 @@ pub fn ready(
         &mut words[ab..],
         &mut floats[..a],
     );
-    let ob = 2 * n + 1;
+    let ob = 6 * n + 1;
     offsets(ns, firsts, starts, &mut words[ob..]);
-    let pb = 3 * n + 1;
+    let pb = 7 * n + 1;
     copy_part(ns, &tasks[n..], &mut words[pb..]);
     fill_part(n + 1, 0, words);
 }

@@ -1,4 +1,2 @@
-pub mod Turns
-pub mod States
+pub mod Fetching
 pub mod Runs
-pub mod Whole

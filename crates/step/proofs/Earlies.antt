@@ -20,15 +20,16 @@ use Rattle.step.specs.Ready.{row, Rows, source, low, high, Listed, Place
 use Rattle.step.proofs.Takes as takes
 use Rattle.step.proofs.Gather.{at-place, at-has, own-place, pos, sourced}
 use Rattle.statement.specs.Shape.{Shape, first, width, height, rowsOf, trapezoid, size, offset, stretch}
+use Rattle.statement.specs.declared.Update.{Update}
 use Rattle.statement.specs.Lists.{has, place}
 use Rattle.statement.specs.Rules.{dot, look, earlier}
 
-module _ (S : Shape) (J : ℕ) (upd : List (List ℕ)) (u0 u1 : ℕ) (old : List Float) where
+module _ (S : Shape) (J : ℕ) (upd : ℕ → Update) (count : ℕ) (old : List Float) where
   -- N lies between the updates before u and those from u on
   pub record Between (u N : ℕ) : Type 0 where
     pub most : N ≤ J
-    pub less : (v : ℕ) → u0 ≤ v → v < u → source upd v < N
-    pub more : (v : ℕ) → u ≤ v → v < u1 → N ≤ source upd v
+    pub less : (v : ℕ) → v < u → source upd v < N
+    pub more : (v : ℕ) → u ≤ v → v < count → N ≤ source upd v
 
   pub record Sofar (new : List Float) (u : ℕ) : Type 0 where
     pub size : length new ≡ length old
@@ -36,19 +37,19 @@ module _ (S : Shape) (J : ℕ) (upd : List (List ℕ)) (u0 u1 : ℕ) (old : List
     pub before : (x : ℕ) → x < offset S J → getD new x nan ≡ getD old x nan
     pub after : (x : ℕ) → offset S (suc J) ≤ x → getD new x nan ≡ getD old x nan
 
-module _ (S : Shape) {N : ℕ} (b : Rows S N) (J : ℕ) (h : J < N) (pl : List ℕ) (placed : Placed S J pl) (wide : S .n ≤ length pl) (upd : List (List ℕ)) (u0 u1 : ℕ) (t : Listed S J upd u0 u1) (old : List Float) where
+module _ (S : Shape) {N : ℕ} (b : Rows S N) (J : ℕ) (h : J < N) (pl : List ℕ) (placed : Placed S J pl) (wide : S .n ≤ length pl) (upd : ℕ → Update) (count : ℕ) (t : Listed S J upd count) (old : List Float) where
   col-in : (c : ℕ) → c < width S J → first S J + c < first S (suc J)
   col-in c l = omega (arith, b .rise J h)
 
   -- no supernode that no update names has a row among J's columns
-  none : (K c : ℕ) → K < J → c < width S J → ((u : ℕ) → u0 ≤ u → u < u1 → source upd u ≡ K → ⊥) → has (first S J + c) (rowsOf S K) ≡ false
+  none : (K c : ℕ) → K < J → c < width S J → ((u : ℕ) → u < count → source upd u ≡ K → ⊥) → has (first S J + c) (rowsOf S K) ≡ false
   none K c l k n = go (has (first S J + c) (rowsOf S K)) refl
     where
       go : (x : Bool) → has (first S J + c) (rowsOf S K) ≡ x → x ≡ false
-      go true e = let z = t .all K (first S J + c) l (omega arith) (col-in c k) e in absurd (n (z .0) (z .1) (z .2) (z .3))
+      go true e = let z = t .all K (first S J + c) l (omega arith) (col-in c k) e in absurd (n (z .0) (z .1) (z .2))
       go false e = refl
 
-  gap : (A : ℕ → ℕ → Float) (i c : ℕ) (x : Float) (N M : ℕ) → N ≤ M → M ≤ J → c < width S J → ((K : ℕ) → N ≤ K → K < M → (u : ℕ) → u0 ≤ u → u < u1 → source upd u ≡ K → ⊥) →
+  gap : (A : ℕ → ℕ → Float) (i c : ℕ) (x : Float) (N M : ℕ) → N ≤ M → M ≤ J → c < width S J → ((K : ℕ) → N ≤ K → K < M → (u : ℕ) → u < count → source upd u ≡ K → ⊥) →
       earlier S A old i (first S J + c) x M ≡ earlier S A old i (first S J + c) x N
   gap A i c x N M l k w n =
       ap (earlier S A old i (first S J + c) x) (sym (add-sub-of-le l)) ∙
@@ -58,31 +59,31 @@ module _ (S : Shape) {N : ℕ} (b : Rows S N) (J : ℕ) (h : J < N) (pl : List �
   unfolding earlier
   first-one A i j x = refl
 
-  pub start : Sofar S J upd u0 u1 old old u0
+  pub start : Sofar S J upd count old old 0
   start =
       record {
         size = refl;
         cells = λ A p c N z w l k.
-            sym (gap A (row S J p) c (getD old (at S J p c) nan) 0 N (omega arith) (z .most) w (λ K x y u e f g. omega (arith, z .more u e f)) ∙ first-one A (row S J p) (first S J + c) (getD old (at S J p c) nan));
+            sym (gap A (row S J p) c (getD old (at S J p c) nan) 0 N (omega arith) (z .most) w (λ K x y u f g. omega (arith, z .more u (omega arith) f)) ∙ first-one A (row S J p) (first S J + c) (getD old (at S J p c) nan));
         before = λ x l. refl;
         after = λ x l. refl;
       }
 
-  module _ (v v′ : List Float) (u : ℕ) (a : u0 ≤ u) (z : u < u1) (s : Sofar S J upd u0 u1 old v u) (k : Took S J upd u pl v v′) where
+  module _ (v v′ : List Float) (u : ℕ) (z : u < count) (s : Sofar S J upd count old v u) (k : Took S J upd u pl v v′) where
     abbrev K : ℕ
     K = source upd u
 
     kin : K < N
-    kin = omega (arith, t .before u a z)
+    kin = omega (arith, t .before u z)
 
     KJ : K < J
-    KJ = t .before u a z
+    KJ = t .before u z
 
     offs : offset S K + size S K ≤ offset S J
     offs = omega (arith, offset-suc S K, offset-mono S J (suc K) KJ)
 
     src : Source pl (S .rows) (offset S (suc J)) (S .n) (offset S J) (height S J) (width S J) (getD (S .starts) K 0) (height S K) (width S K) (offset S K) (low upd u) (high upd u)
-    src = sourced S b J h pl placed upd u0 u1 t u a z (offset S (suc J)) (S .n) wide (omega arith) (omega arith)
+    src = sourced S b J h pl placed upd count t u z (offset S (suc J)) (S .n) wide (omega arith) (omega arith)
 
     spots-in : (q r : ℕ) → low upd u ≤ q → q < high upd u → q ≤ r → r < height S K → offset S J + spotOf pl (S .rows) (height S J) (getD (S .starts) K 0) q r < offset S (suc J)
     unfolding size
@@ -100,17 +101,17 @@ module _ (S : Shape) {N : ℕ} (b : Rows S N) (J : ℕ) (h : J < N) (pl : List �
         inside : trapezoid (height S K) x + (place i (rowsOf S K) - x) < trapezoid (height S K) (width S K)
         inside = spot-lt (height S K) (place i (rowsOf S K)) x (width S K) (place-lt i (rowsOf S K) m) (omega (arith, b .tall K kin)) l
 
-    between : Between S J upd u0 u1 old u K
+    between : Between S J upd count old u K
     between =
         record {
           most = omega (arith, KJ);
-          less = λ w x y. t .rising w u x y z;
+          less = λ w y. t .rising w u y z;
           more = λ w x y. from w x y (ℕ-discrete u w);
         }
       where
-        from : (w : ℕ) → u ≤ w → w < u1 → Dec (u ≡ w) → K ≤ source upd w
+        from : (w : ℕ) → u ≤ w → w < count → Dec (u ≡ w) → K ≤ source upd w
         from w x y (yes e) = omega (arith, ap (source upd) e)
-        from w x y (no e) = omega (arith, t .rising u w a (omega arith) y)
+        from w x y (no e) = omega (arith, t .rising u w (omega arith) y)
 
     module _ (A : ℕ → ℕ → Float) (p c : ℕ) (wc : c < width S J) (cp : c ≤ p) (pm : p < height S J) where
       abbrev i : ℕ
@@ -167,13 +168,13 @@ module _ (S : Shape) {N : ℕ} (b : Rows S N) (J : ℕ) (h : J < N) (pl : List �
               go (no l) = omega arith
 
           run : (low upd u ≤ q) × (q < high upd u)
-          run = t .only u q a z qm (omega (arith, q-is)) (omega (arith, q-is, col-in c wc))
+          run = t .only u q z qm (omega (arith, q-is)) (omega (arith, q-is, col-in c wc))
 
           pos-q : posOf pl (S .rows) (getD (S .starts) K 0) q ≡ c
-          pos-q = pos S b J h pl placed upd u0 u1 t u a z q (run .0) qm ∙ ap (λ x. place x (rowsOf S J)) q-is ∙ own-place S b J c h wc
+          pos-q = pos S b J h pl placed upd count t u z q (run .0) qm ∙ ap (λ x. place x (rowsOf S J)) q-is ∙ own-place S b J c h wc
 
           pos-r : posOf pl (S .rows) (getD (S .starts) K 0) r ≡ p
-          pos-r = pos S b J h pl placed upd u0 u1 t u a z r (omega (arith, run .0, qr)) rm ∙ ap (λ x. place x (rowsOf S J)) r-is ∙ at-place S b J p h pm
+          pos-r = pos S b J h pl placed upd count t u z r (omega (arith, run .0, qr)) rm ∙ ap (λ x. place x (rowsOf S J)) r-is ∙ at-place S b J p h pm
 
           there : offset S J + spotOf pl (S .rows) (height S J) (getD (S .starts) K 0) q r ≡ at S J p c
           there = ap₂ (λ x y. offset S J + (trapezoid (height S J) x + (y - x))) pos-q pos-r
@@ -190,13 +191,13 @@ module _ (S : Shape) {N : ℕ} (b : Rows S N) (J : ℕ) (h : J < N) (pl : List �
 
           r-is : row S K r ≡ i
           r-is =
-              sym (getD-place (row S K r) (rowsOf S J) 0 (t .nested u r a z (omega arith) l₄)) ∙
-              ap (row S J) (sym (pos S b J h pl placed upd u0 u1 t u a z r (omega arith) l₄) ∙ same .1)
+              sym (getD-place (row S K r) (rowsOf S J) 0 (t .nested u r z (omega arith) l₄)) ∙
+              ap (row S J) (sym (pos S b J h pl placed upd count t u z r (omega arith) l₄) ∙ same .1)
 
           q-is : row S K q ≡ j
           q-is =
-              sym (getD-place (row S K q) (rowsOf S J) 0 (t .nested u q a z l₁ (omega arith))) ∙
-              ap (row S J) (sym (pos S b J h pl placed upd u0 u1 t u a z q l₁ (omega arith)) ∙ same .0) ∙
+              sym (getD-place (row S K q) (rowsOf S J) 0 (t .nested u q z l₁ (omega arith))) ∙
+              ap (row S J) (sym (pos S b J h pl placed upd count t u z q l₁ (omega arith)) ∙ same .0) ∙
               b .own J c h wc
 
       now-is : getD v′ (at S J p c) nan ≡ y (suc K)
@@ -212,30 +213,30 @@ module _ (S : Shape) {N : ℕ} (b : Rows S N) (J : ℕ) (h : J < N) (pl : List �
           go true e false d = missed (λ m n. never n d)
           go false e g d = missed (λ m n. never m e)
 
-    pub further : Sofar S J upd u0 u1 old v′ (u + 1)
+    pub further : Sofar S J upd count old v′ (u + 1)
     further =
         record {
           size = k .size ∙ s .size;
           cells = λ A p c N g wc cp pm.
               now-is A p c wc cp pm ∙
-              sym (gap A (row S J p) c (getD old (at S J p c) nan) (suc K) N (g .less u a (omega arith)) (g .most) wc (λ M x y w e f d. between-none N g M x y w e f d (decLt u w)));
+              sym (gap A (row S J p) c (getD old (at S J p c) nan) (suc K) N (g .less u (omega arith)) (g .most) wc (λ M x y w f d. between-none N g M x y w f d (decLt u w)));
           before = λ x l. k .miss x (λ q r l₁ l₂ l₃ l₄ e. omega arith) ∙ s .before x l;
           after = λ x l. k .miss x (λ q r l₁ l₂ l₃ l₄ e. omega (arith, spots-in q r l₁ l₂ l₃ l₄)) ∙ s .after x l;
         }
       where
-        between-none : (N : ℕ) → Between S J upd u0 u1 old (u + 1) N → (M : ℕ) → suc K ≤ M → M < N → (w : ℕ) → u0 ≤ w → w < u1 → source upd w ≡ M → Dec (u < w) → ⊥
-        between-none N g M x y w e f d (yes l) = omega (arith, g .more w (omega arith) f)
-        between-none N g M x y w e f d (no l) = at-most (ℕ-discrete w u)
+        between-none : (N : ℕ) → Between S J upd count old (u + 1) N → (M : ℕ) → suc K ≤ M → M < N → (w : ℕ) → w < count → source upd w ≡ M → Dec (u < w) → ⊥
+        between-none N g M x y w f d (yes l) = omega (arith, g .more w (omega arith) f)
+        between-none N g M x y w f d (no l) = at-most (ℕ-discrete w u)
           where
             at-most : Dec (w ≡ u) → ⊥
             at-most (yes q) = omega (arith, ap (source upd) q)
-            at-most (no q) = omega (arith, t .rising w u e (omega arith) z)
+            at-most (no q) = omega (arith, t .rising w u (omega arith) z)
 
-  pub all : (new : List Float) (u : ℕ) → u ≤ u1 → u1 ≤ u → Sofar S J upd u0 u1 old new u → Gathered S J old new
+  pub all : (new : List Float) (u : ℕ) → u ≤ count → count ≤ u → Sofar S J upd count old new u → Gathered S J old new
   all new u l k s =
       record {
         size = s .size;
-        cells = λ A p c wc cp pm. s .cells A p c J (record { most = omega arith; less = λ v x y. t .before v x (omega arith); more = λ v x y. absurd (omega arith) }) wc cp pm;
+        cells = λ A p c wc cp pm. s .cells A p c J (record { most = omega arith; less = λ v y. t .before v (omega arith); more = λ v x y. absurd (omega arith) }) wc cp pm;
         before = s .before;
         after = s .after;
       }

@@ -17,6 +17,7 @@ use Rattle.step.specs.Update.{posOf, Source, Updated}
 use Rattle.areas.specs.Touch.{Touched}
 use Rattle.step.specs.Ready.{row, Rows, source, low, high, Listed, Placed, Own}
 use Rattle.statement.specs.Shape.{Shape, first, width, height, rowsOf, trapezoid, size, offset, stretch}
+use Rattle.statement.specs.declared.Update.{Update}
 use Rattle.statement.specs.Lists.{has, place}
 
 module _ (S : Shape) {N : ℕ} (b : Rows S N) where
@@ -70,16 +71,16 @@ module _ (S : Shape) {N : ℕ} (b : Rows S N) where
     pub own-pos : (j : ℕ) → first S J ≤ j → j < first S (suc J) → place j (rowsOf S J) ≡ j - first S J
     own-pos j l k = subst (λ x. place x (rowsOf S J) ≡ j - first S J) (add-sub-of-le l) (own-place J (j - first S J) h (omega arith))
 
-    module _ (upd : List (List ℕ)) (u0 u1 : ℕ) (t : Listed S J upd u0 u1) (u : ℕ) (a : u0 ≤ u) (z : u < u1) where
+    module _ (upd : ℕ → Update) (count : ℕ) (t : Listed S J upd count) (u : ℕ) (z : u < count) where
       abbrev K : ℕ
       K = source upd u
 
       kin : K < N
-      kin = omega (arith, t .before u a z)
+      kin = omega (arith, t .before u z)
 
       -- J's position of K's row r
       pub pos : (r : ℕ) → low upd u ≤ r → r < height S K → posOf pl (S .rows) (getD (S .starts) K 0) r ≡ place (row S K r) (rowsOf S J)
-      pos r l k = ap (λ x. getD pl x 0) (row-is K r kin k) ∙ pos-is (row S K r) (t .nested u r a z l k)
+      pos r l k = ap (λ x. getD pl x 0) (row-is K r kin k) ∙ pos-is (row S K r) (t .nested u r z l k)
 
       pub sourced : (vlen wlen : ℕ) → S .n ≤ length pl → S .n ≤ wlen → offset S (suc J) ≤ vlen →
           Source pl (S .rows) vlen wlen (offset S J) (height S J) (width S J) (getD (S .starts) K 0) (height S K) (width S K) (offset S K) (low upd u) (high upd u)
@@ -88,19 +89,19 @@ module _ (S : Shape) {N : ℕ} (b : Rows S N) where
           record {
             few = omega (arith, height-le J h, b .few);
             fewK = omega (arith, height-le K kin, b .few);
-            past = t .past u a z;
-            ordered = t .run u a z .0;
-            inK = t .run u a z .1;
+            past = t .past u z;
+            ordered = t .run u z .0;
+            inK = t .run u z .1;
             listed = omega (arith, height-is K kin, b .listed K kin, b .ordered K kin);
             room = omega (arith, height-le K kin);
-            stretch = omega (arith, offset-suc S K, offset-mono S J (suc K) (t .before u a z));
+            stretch = omega (arith, offset-suc S K, offset-mono S J (suc K) (t .before u z));
             own = omega (arith, offset-suc S J);
             known = λ r k. omega (arith, row-is K r kin k, b .below K r kin k);
-            rise = λ r s l m n. omega (arith, pos r l (omega arith), pos s (omega arith) n, place-rise J (row S K r) (row S K s) h (t .nested u r a z l (omega arith)) (t .nested u s a z (omega arith) n) (b .sorted K r s kin m n));
-            inside = λ r l k. omega (arith, pos r l k, place-lt (row S K r) (rowsOf S J) (t .nested u r a z l k));
+            rise = λ r s l m n. omega (arith, pos r l (omega arith), pos s (omega arith) n, place-rise J (row S K r) (row S K s) h (t .nested u r z l (omega arith)) (t .nested u s z (omega arith) n) (b .sorted K r s kin m n));
+            inside = λ r l k. omega (arith, pos r l k, place-lt (row S K r) (rowsOf S J) (t .nested u r z l k));
             columns = λ r l k.
-                let q = t .columns u r a z l k in
-                omega (arith, pos r l (omega (arith, t .run u a z .1)), own-pos (row S K r) (q .0) (q .1), b .rise J h, q .0, q .1);
+                let q = t .columns u r z l k in
+                omega (arith, pos r l (omega (arith, t .run u z .1)), own-pos (row S K r) (q .0) (q .1), b .rise J h, q .0, q .1);
           }
 
 -- as the code counts

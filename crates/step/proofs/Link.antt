@@ -1,37 +1,55 @@
 -- From the areas that the analysis leaves to what the step asks, and from the lent structure back to the whole one. Assumes nothing.
 use mathlib.Core.Path.{_≡_, refl, sym, ap, _∙_, subst}
 use mathlib.Core.Bool.{true}
-use mathlib.Core.List.{List, [], _++_, map}
+use mathlib.Core.List.{List, _++_}
 use Prim.Native.Nat.{ℕ, zero, suc, _+_, _-_, _≤_, _<_}
 use native.Mathlib.Omega.{arith}
-use native.Mathlib.Nat.{le-refl, add-sub-of-le}
-use native.Mathlib.Numerals.{add-one}
 use native.Mathlib.Decide.{ℕ-discrete, decLt}
-use lib.ListN.{length, getD, take, drop, length-append, length-map, List·getD-append, List·getD-map}
+use lib.ListN.{length, getD, take, drop, length-append, List·getD-append}
 use lib.Seq.{getD-take, getD-drop, take-append-le}
 use lib.Ieee.{Float}
 use Rattle.laws.specs.Lent.{laid}
 use Rattle.statement.specs.declared.Update.{Update}
 use Rattle.statement.specs.Lists.{has, place, joined}
-use Rattle.statement.specs.Shape.{Shape, supernodes, first, width, height, parentOf, rowsOf, offset}
+use Rattle.statement.specs.Shape.{Shape, supernodes, first, width, height, parentOf, rowsOf}
 use Rattle.statement.specs.Supernodes.{below, updatesOf, updates, updateStarts}
 use Rattle.statement.specs.Areas.{noUpdate}
 use Rattle.statement.specs.Rules.{Out, made, broke, step}
 use Rattle.laws.specs.Built.{Built}
-use Rattle.laws.specs.Lower.{Lower, Pattern}
+use Rattle.laws.specs.Lower.{Pattern}
 use Rattle.laws.proofs.Entry.{place-lt, getD-place}
 use Rattle.laws.proofs.Built.{first-mono, at-has, at-place}
 use Rattle.laws.proofs.Ranks.{list-length, list-at, joined-grows, joined-part}
 use Rattle.laws.proofs.Updates.{below-first}
 use Rattle.laws.proofs.Listing.{Spans, below-most, lowOf, highOf, Each, each-of}
-use Rattle.laws.proofs.Agree.{Alike, offset-agree, stretch-agree, put-agree, zeros-agree, step-agree}
-use Rattle.areas.specs.Touch.{Touched}
-use Rattle.areas.proofs.Lists.{getD-any}
-use Rattle.step.specs.Ready.{row, Rows, source, low, high, triple, Listed}
+use Rattle.laws.proofs.Agree.{Alike, stretch-agree, put-agree, zeros-agree, step-agree}
+use Rattle.step.specs.Ready.{row, Rows, from, source, low, high, Listed}
 use Rattle.step.specs.Laid.{Laid}
-use Rattle.step.specs.Answer.{answerOf, leaves, Stepped, Ready}
+use Rattle.step.specs.Answer.{answerOf, leaves, Stepped}
 use Rattle.step.specs.declared.StepAnswer.{StepAnswer}
-use Rattle.step.proofs.Gather.{row-is, height-code}
+
+-- updates that are the same below count
+pub listed-same : (S : Shape) (J : ℕ) (upd upd′ : ℕ → Update) (count : ℕ) → ((u : ℕ) → u < count → upd′ u ≡ upd u) → Listed S J upd count → Listed S J upd′ count
+listed-same S J upd upd′ count e t =
+    record {
+      before = λ u k. rw (from-of u k) (t .before u k);
+      rising = λ u v k m. rw (from-of u (omega arith), from-of v m) (t .rising u v k m);
+      run = λ u k. rw (from-of u k, low-of u k, high-of u k) (t .run u k);
+      past = λ u k. rw (from-of u k, low-of u k) (t .past u k);
+      columns = λ u q k. rw (from-of u k, low-of u k, high-of u k) (t .columns u q k);
+      only = λ u q k. rw (from-of u k, low-of u k, high-of u k) (t .only u q k);
+      nested = λ u q k. rw (from-of u k, low-of u k) (t .nested u q k);
+      all = λ K j k lo hi m. let z = t .all K j k lo hi m in (z .0, z .1, from-of (z .0) (z .1) ∙ z .2);
+    }
+  where
+    from-of : (u : ℕ) → u < count → source upd′ u ≡ source upd u
+    from-of u k = ap (λ x. x .supernode) (e u k)
+
+    low-of : (u : ℕ) → u < count → low upd′ u ≡ low upd u
+    low-of u k = ap (λ x. x .p1) (e u k)
+
+    high-of : (u : ℕ) → u < count → high upd′ u ≡ high upd u
+    high-of u k = ap (λ x. x .p2) (e u k)
 
 -- ---- a structure T that is S up to J
 
@@ -52,23 +70,21 @@ module _ (T S : Shape) (J : ℕ) (a : Alike T S J) where
         listed = λ K k. omega (arith, at (suc K) (omega arith), s .listed K (omega arith));
       }
 
-  module _ (upd : List (List ℕ)) (u0 u1 : ℕ) (t : Listed S J upd u0 u1) where
+  module _ (upd : ℕ → Update) (count : ℕ) (t : Listed S J upd count) where
     -- an update's supernode, as both have it
-    rows-at : (u : ℕ) → u0 ≤ u → u < u1 → rowsOf T (source upd u) ≡ rowsOf S (source upd u)
-    rows-at u l k = a .rows (source upd u) (omega (arith, t .before u l k))
+    rows-at : (u : ℕ) → u < count → rowsOf T (source upd u) ≡ rowsOf S (source upd u)
+    rows-at u k = a .rows (source upd u) (omega (arith, t .before u k))
 
-    pub listed-alike : Listed T J upd u0 u1
+    pub listed-alike : Listed T J upd count
     listed-alike =
         record {
-          ordered = t .ordered;
-          room = t .room;
           before = t .before;
           rising = t .rising;
-          run = λ u l k. rw (rows-at u l k) (t .run u l k);
-          past = λ u l k. rw (a .firsts (source upd u) (omega (arith, t .before u l k)), a .firsts (suc (source upd u)) (omega (arith, t .before u l k))) (t .past u l k);
-          columns = λ u q l k. rw (rows-at u l k, a .firsts J (omega arith), a .firsts (suc J) (omega arith)) (t .columns u q l k);
-          only = λ u q l k. rw (rows-at u l k, a .firsts J (omega arith), a .firsts (suc J) (omega arith)) (t .only u q l k);
-          nested = λ u q l k. rw (rows-at u l k, a .rows J (omega arith)) (t .nested u q l k);
+          run = λ u k. rw (rows-at u k) (t .run u k);
+          past = λ u k. rw (a .firsts (source upd u) (omega (arith, t .before u k)), a .firsts (suc (source upd u)) (omega (arith, t .before u k))) (t .past u k);
+          columns = λ u q k. rw (rows-at u k, a .firsts J (omega arith), a .firsts (suc J) (omega arith)) (t .columns u q k);
+          only = λ u q k. rw (rows-at u k, a .firsts J (omega arith), a .firsts (suc J) (omega arith)) (t .only u q k);
+          nested = λ u q k. rw (rows-at u k, a .rows J (omega arith)) (t .nested u q k);
           all = λ K j k. rw (a .firsts J (omega arith), a .firsts (suc J) (omega arith), a .rows K (omega arith)) (t .all K j k);
         }
 
@@ -153,58 +169,56 @@ module _ (S : Shape) (b : Built S) where
         go ih (no ne) = ih (omega (arith, parent-le K h m))
 
   -- a list of runs, rising, that names each supernode with a row among J's columns, is what the step asks
-  pub listed-of : (J : ℕ) (upd : List (List ℕ)) (u0 u1 : ℕ) → J < supernodes S → u0 ≤ u1 → u1 ≤ length upd →
-      ((u : ℕ) → u0 ≤ u → u < u1 → source upd u < J) →
-      ((u t : ℕ) → u0 ≤ u → u < t → t < u1 → source upd u < source upd t) →
-      ((u : ℕ) → u0 ≤ u → u < u1 → Run S J (source upd u) (low upd u) (high upd u)) →
-      ((K j : ℕ) → K < J → first S J ≤ j → j < first S (suc J) → has j (rowsOf S K) ≡ true → (u : ℕ) × (u0 ≤ u) × (u < u1) × (source upd u ≡ K)) →
-      Listed S J upd u0 u1
-  listed-of J upd u0 u1 h ordered room before rising run all =
+  pub listed-of : (J : ℕ) (upd : ℕ → Update) (count : ℕ) → J < supernodes S →
+      ((u : ℕ) → u < count → source upd u < J) →
+      ((u t : ℕ) → u < t → t < count → source upd u < source upd t) →
+      ((u : ℕ) → u < count → Run S J (source upd u) (low upd u) (high upd u)) →
+      ((K j : ℕ) → K < J → first S J ≤ j → j < first S (suc J) → has j (rowsOf S K) ≡ true → (u : ℕ) × (u < count) × (source upd u ≡ K)) →
+      Listed S J upd count
+  listed-of J upd count h before rising run all =
       record {
-        ordered = ordered;
-        room = room;
         before = before;
         rising = rising;
-        run = λ u a z. (omega (arith, run u a z .some), run u a z .most);
-        past = λ u a z. past u a z;
-        columns = λ u q a z l k. run u a z .columns q l k;
-        only = λ u q a z q′ l k. only u q a z q′ l k (decLt q (low upd u)) (decLt q (high upd u));
-        nested = λ u q a z l k. nest u q a z l k;
+        run = λ u z. (omega (arith, run u z .some), run u z .most);
+        past = λ u z. past u z;
+        columns = λ u q z l k. run u z .columns q l k;
+        only = λ u q z q′ l k. only u q z q′ l k (decLt q (low upd u)) (decLt q (high upd u));
+        nested = λ u q z l k. nest u q z l k;
         all = all;
       }
     where
-      in-K : (u : ℕ) → u0 ≤ u → u < u1 → low upd u < height S (source upd u)
-      in-K u a z = omega (arith, run u a z .some, run u a z .most)
+      in-K : (u : ℕ) → u < count → low upd u < height S (source upd u)
+      in-K u z = omega (arith, run u z .some, run u z .most)
 
-      kin : (u : ℕ) → u0 ≤ u → u < u1 → source upd u < supernodes S
-      kin u a z = omega (arith, before u a z)
+      kin : (u : ℕ) → u < count → source upd u < supernodes S
+      kin u z = omega (arith, before u z)
 
-      past : (u : ℕ) → u0 ≤ u → u < u1 → width S (source upd u) ≤ low upd u
-      past u a z =
+      past : (u : ℕ) → u < count → width S (source upd u) ≤ low upd u
+      past u z =
           omega (
             arith,
-            at-place S b (source upd u) (low upd u) (kin u a z) (in-K u a z),
-            far (source upd u) (row S (source upd u) (low upd u)) J (before u a z) h (run u a z .columns (low upd u) (omega arith) (run u a z .some) .0) (at-has S b (source upd u) (low upd u) (kin u a z) (in-K u a z)),
+            at-place S b (source upd u) (low upd u) (kin u z) (in-K u z),
+            far (source upd u) (row S (source upd u) (low upd u)) J (before u z) h (run u z .columns (low upd u) (omega arith) (run u z .some) .0) (at-has S b (source upd u) (low upd u) (kin u z) (in-K u z)),
           )
 
-      only : (u q : ℕ) → u0 ≤ u → u < u1 → q < height S (source upd u) → first S J ≤ row S (source upd u) q → row S (source upd u) q < first S (suc J) → Dec (q < low upd u) → Dec (q < high upd u) → (low upd u ≤ q) × (q < high upd u)
-      only u q a z m l k (yes x) d = absurd (omega (arith, run u a z .below q x))
-      only u q a z m l k (no x) (yes y) = (omega arith, y)
-      only u q a z m l k (no x) (no y) = absurd (omega (arith, run u a z .above q (omega arith) m))
+      only : (u q : ℕ) → u < count → q < height S (source upd u) → first S J ≤ row S (source upd u) q → row S (source upd u) q < first S (suc J) → Dec (q < low upd u) → Dec (q < high upd u) → (low upd u ≤ q) × (q < high upd u)
+      only u q z m l k (yes x) d = absurd (omega (arith, run u z .below q x))
+      only u q z m l k (no x) (yes y) = (omega arith, y)
+      only u q z m l k (no x) (no y) = absurd (omega (arith, run u z .above q (omega arith) m))
 
-      nest : (u q : ℕ) → u0 ≤ u → u < u1 → low upd u ≤ q → q < height S (source upd u) → has (row S (source upd u) q) (rowsOf S J) ≡ true
-      nest u q a z l k =
-          let c = run u a z .columns (low upd u) (omega arith) (run u a z .some) in
-          climb J (row S (source upd u) (low upd u)) (row S (source upd u) q) h (c .0) (c .1) (up (ℕ-discrete (low upd u) q)) J (source upd u) (omega arith) (before u a z)
-          (at-has S b (source upd u) (low upd u) (kin u a z) (in-K u a z)) (at-has S b (source upd u) q (kin u a z) k)
+      nest : (u q : ℕ) → u < count → low upd u ≤ q → q < height S (source upd u) → has (row S (source upd u) q) (rowsOf S J) ≡ true
+      nest u q z l k =
+          let c = run u z .columns (low upd u) (omega arith) (run u z .some) in
+          climb J (row S (source upd u) (low upd u)) (row S (source upd u) q) h (c .0) (c .1) (up (ℕ-discrete (low upd u) q)) J (source upd u) (omega arith) (before u z)
+          (at-has S b (source upd u) (low upd u) (kin u z) (in-K u z)) (at-has S b (source upd u) q (kin u z) k)
         where
           up : Dec (low upd u ≡ q) → row S (source upd u) (low upd u) ≤ row S (source upd u) q
           up (yes e) = omega (arith, ap (row S (source upd u)) e)
-          up (no e) = omega (arith, b .sorted (source upd u) (low upd u) q (kin u a z) (omega arith) k)
+          up (no e) = omega (arith, b .sorted (source upd u) (low upd u) q (kin u z) (omega arith) k)
 
 -- ---- the areas
 
-module _ (S : Shape) (b : Built S) (s : Spans S) (F St R U : List ℕ) (upd : List (List ℕ)) (l : Laid S F St R U upd) (J : ℕ) (h : J < supernodes S) where
+module _ (S : Shape) (b : Built S) (s : Spans S) (F St R U : List ℕ) (us : List Update) (l : Laid S F St R U us) (J : ℕ) (h : J < supernodes S) where
   start-at : (K : ℕ) → K ≤ supernodes S → getD St K 0 ≡ getD (S .starts) K 0
   start-at K k = ap (λ x. getD x K 0) (l .startsAre) ∙ List·getD-append (S .starts) (l .startsRest) 0 K (omega (arith, s .many))
 
@@ -234,9 +248,6 @@ module _ (S : Shape) (b : Built S) (s : Spans S) (F St R U : List ℕ) (upd : Li
   unfolding updateStarts
   group-at K k = ap (λ x. getD x K 0) (l .groupsAre) ∙ List·getD-append (updateStarts S) (l .groupsRest) 0 K (omega (arith, list-length g (suc (supernodes S)))) ∙ list-at g (suc (supernodes S)) K 0 (omega arith)
 
-  next : getD U (J + 1) 0 ≡ g (suc J)
-  next = ap (λ k. getD U k 0) (add-one J) ∙ group-at (suc J) h
-
   count : g (suc J) ≡ g J + length (updatesOf S J)
   unfolding joined
   count = length-append (joined (updatesOf S) J) (updatesOf S J)
@@ -245,23 +256,18 @@ module _ (S : Shape) (b : Built S) (s : Spans S) (F St R U : List ℕ) (upd : Li
   unfolding updates
   most = joined-grows (updatesOf S) (suc J) (supernodes S) h
 
-  -- update u of the area is the one at u less J's start on J's list
+  -- update u of J, on J's list and in the area
   abbrev one : ℕ → Update
-  one u = getD (updatesOf S J) (u - g J) noUpdate
+  one u = getD (updatesOf S J) u noUpdate
 
-  one-is : (u : ℕ) → g J ≤ u → u < g (suc J) → getD upd u [] ≡ triple (one u)
+  one-is : (u : ℕ) → u < length (updatesOf S J) → from us (g J) u ≡ one u
   unfolding updates
-  one-is u k m =
-      ap (λ x. getD x u []) (l .updAre) ∙
-      List·getD-append (map triple (updates S)) (l .updRest) [] u (omega (arith, length-map (updates S) triple, most)) ∙
-      getD-any (map triple (updates S)) u [] (triple noUpdate) (omega (arith, length-map (updates S) triple, most)) ∙
-      List·getD-map triple (updates S) u noUpdate ∙
-      ap triple (
-      ap (λ i. getD (updates S) i noUpdate) (sym (add-sub-of-le k)) ∙
-      sym (getD-take (g (suc J)) (updates S) (g J + (u - g J)) noUpdate (omega arith)) ∙
-      sym (getD-drop (g J) (take (g (suc J)) (updates S)) (u - g J) noUpdate) ∙
-      ap (λ x. getD x (u - g J) noUpdate) (joined-part (updatesOf S) J (supernodes S) h)
-      )
+  one-is u k =
+      ap (λ x. getD x (g J + u) noUpdate) (l .updAre) ∙
+      List·getD-append (updates S) (l .updRest) noUpdate (g J + u) (omega (arith, most, count)) ∙
+      sym (getD-take (g (suc J)) (updates S) (g J + u) noUpdate (omega (arith, count))) ∙
+      sym (getD-drop (g J) (take (g (suc J)) (updates S)) u noUpdate) ∙
+      ap (λ x. getD x u noUpdate) (joined-part (updatesOf S) J (supernodes S) h)
 
   -- K's rows among J's columns, by how many are below
   sorted : (K : ℕ) → K < J → (p q : ℕ) → p < q → q < height S K → row S K p < row S K q
@@ -298,58 +304,33 @@ module _ (S : Shape) (b : Built S) (s : Spans S) (F St R U : List ℕ) (upd : Li
   each : Each S J J (updatesOf S J)
   each = each-of S J
 
-  module _ (u : ℕ) (k : g J ≤ u) (m : u < g (suc J)) where
-    here : u - g J < length (updatesOf S J)
-    here = omega (arith, count)
-
-    source-is : source upd u ≡ one u .supernode
-    source-is = ap (λ t. getD t 0 0) (one-is u k m)
-
-    run-is : Run S J (source upd u) (low upd u) (high upd u)
-    run-is =
-        let a = each .at (u - g J) here in
-        rw
-        (source-is, ap (λ t. getD t 1 0) (one-is u k m), ap (λ t. getD t 2 0) (one-is u k m), a .low, a .high)
-        (run-at (one u .supernode) (a .under) (rw (a .low, a .high) at (a .some)))
-
-  pub listed-areas : Listed S J upd (getD U J 0) (getD U (J + 1) 0)
-  listed-areas =
-      rw (group-at J (omega arith), next)
-      (listed-of S b J upd (g J) (g (suc J)) h (omega (arith, count)) (omega (arith, most, ap length (l .updAre), length-append (map triple (updates S)) (l .updRest), length-map (updates S) triple))
-      under rising (λ u k m. run-is u k m) all)
+  listed-own : Listed S J one (length (updatesOf S J))
+  listed-own = listed-of S b J one (length (updatesOf S J)) h (λ u k. each .at u k .under) (λ u t m k. each .rising u t m k) run-is (λ K j k lo hi m. each .all K k (some-of K j k lo hi m))
     where
-      under : (u : ℕ) → g J ≤ u → u < g (suc J) → source upd u < J
-      under u k m = rw (source-is u k m) (each .at (u - g J) (here u k m) .under)
+      run-is : (u : ℕ) → u < length (updatesOf S J) → Run S J (one u .supernode) (one u .p1) (one u .p2)
+      run-is u k = let a = each .at u k in rw (a .low, a .high) (run-at (one u .supernode) (a .under) (rw (a .low, a .high) at (a .some)))
 
-      rising : (u t : ℕ) → g J ≤ u → u < t → t < g (suc J) → source upd u < source upd t
-      rising u t k m n = rw (source-is u k (omega arith), source-is t (omega arith) n) (each .rising (u - g J) (t - g J) (omega arith) (here t (omega arith) n))
+  -- at most one update by each earlier supernode
+  few-of : length (updatesOf S J) ≤ J
+  few-of = go (length (updatesOf S J)) refl
+    where
+      least : (u : ℕ) → u < length (updatesOf S J) → u ≤ one u .supernode
+      least zero k = omega arith
+      least (suc u) k = omega (arith, least u (omega arith), each .rising u (suc u) (omega arith) k)
 
-      all : (K j : ℕ) → K < J → first S J ≤ j → j < first S (suc J) → has j (rowsOf S K) ≡ true → (u : ℕ) × (g J ≤ u) × (u < g (suc J)) × (source upd u ≡ K)
-      all K j k lo hi m = let z = each .all K k (some-of K j k lo hi m) in found (z .0) (z .1) (z .2)
-        where
-          found : (p : ℕ) → p < length (updatesOf S J) → getD (updatesOf S J) p noUpdate .supernode ≡ K → (u : ℕ) × (g J ≤ u) × (u < g (suc J)) × (source upd u ≡ K)
-          found p i e =
-              let q : g J + p - g J ≡ p = omega arith in
-              (g J + p, omega arith, omega (arith, count), source-is (g J + p) (omega arith) (omega (arith, count)) ∙ ap (λ x. getD (updatesOf S J) x noUpdate .supernode) q ∙ e)
+      go : (m : ℕ) → length (updatesOf S J) ≡ m → m ≤ J
+      go zero e = omega arith
+      go (suc m) e = omega (arith, least m (omega arith), each .at m (omega arith) .under)
 
-  -- all that the step asks
-  pub ready-of : (a : ℕ) (offs starts arows : List ℕ) (floats : List Float) (vlen : ℕ) (pl pl′ : List ℕ) → S .n ≤ 32768 → J < length offs →
-      ((K : ℕ) → K ≤ J → getD offs K 0 ≡ offset S K) → Lower starts arows (take a floats) (S .n) → Pattern S J starts arows → offset S (suc J) ≤ vlen → a + S .n ≤ length floats → S .n ≤ length pl →
-      Touched 0 pl pl′ (getD St (J + 1) 0 - getD St J 0) (λ p. getD R (getD St J 0 + p) 0) (λ p. p) →
-      Ready (laid (S .n) F St R) J a offs upd (getD U J 0) (getD U (J + 1) 0) starts arows floats vlen pl′
-  ready-of a offs starts arows floats vlen pl pl′ few room at lower pattern values work places t =
-      record {
-        shape = rows-of few;
-        updates = listed-alike (laid (S .n) F St R) S J alike upd (getD U J 0) (getD U (J + 1) 0) listed-areas;
-        offsets = record { room = room; at = λ K k. at K k ∙ sym (offset-agree (laid (S .n) F St R) S J alike K (omega arith)) };
-        lower = lower;
-        pattern = pattern-alike (laid (S .n) F St R) S J alike starts arows pattern;
-        values = omega (arith, offset-agree (laid (S .n) F St R) S J alike (suc J) (omega arith));
-        work = work;
-        placed = λ p q. ap (λ x. getD pl′ x 0) (sym (row-is (laid (S .n) F St R) (rows-of few) J p (le-refl (suc J)) q)) ∙ t .inside p (omega (arith, height-code (laid (S .n) F St R) (rows-of few) J (le-refl (suc J))));
-        places = omega (arith, t .size);
-      }
+  -- J's updates stand in the area from its group's start to the next's
+  pub group-rise : getD U J 0 ≤ getD U (suc J) 0
+  group-rise = omega (arith, group-at J (omega arith), group-at (suc J) h, count)
 
-  -- what the step leaves, at the whole structure
-  pub stepped-of : (A : ℕ → ℕ → Float) (old new : List Float) (r : StepAnswer) → Stepped (laid (S .n) F St R) A J old new r → Stepped S A J old new r
-  stepped-of A old new r = stepped-alike (laid (S .n) F St R) S J alike A old new r
+  pub group-in : getD U (suc J) 0 ≤ length us
+  group-in = omega (arith, group-at (suc J) h, most, ap length (l .updAre), length-append (updates S) (l .updRest))
+
+  pub group-few : getD U (suc J) 0 - getD U J 0 ≤ J
+  group-few = omega (arith, group-at J (omega arith), group-at (suc J) h, count, few-of)
+
+  pub listed-areas : Listed S J (from us (getD U J 0)) (getD U (suc J) 0 - getD U J 0)
+  listed-areas = rw (group-at J (omega arith), (let e : getD U (suc J) 0 - g J ≡ length (updatesOf S J) = omega (arith, group-at (suc J) h, count) in e)) (listed-same S J one (from us (g J)) (length (updatesOf S J)) one-is listed-own)

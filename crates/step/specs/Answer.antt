@@ -1,12 +1,12 @@
 -- What the step answers and leaves. Assumes nothing.
 use mathlib.Core.Path.{_≡_}
 use mathlib.Core.List.{List}
-use Prim.Native.Nat.{ℕ, suc, _+_, _≤_, _<_}
+use Prim.Native.Nat.{ℕ, suc, _+_, _*_, _≤_, _<_}
 use lib.ListN.{length, getD, take}
 use lib.Ieee.{Float, nan}
 use Rattle.step.specs.declared.StepAnswer.{StepAnswer}
 use Rattle.step.specs.declared.StepAnswer.the-variants.{Made, Broke}
-use Rattle.step.specs.Ready.{row, at, Rows, Listed, Offsets, Placed}
+use Rattle.step.specs.Ready.{row, at, Rows, inWords, Listed, Offsets, Placed}
 use Rattle.statement.specs.Shape.{Shape, first, width, height, offset, put, zeros}
 use Rattle.statement.specs.Rules.{Out, made, broke, earlier, step}
 use Rattle.laws.specs.Lower.{Lower, Pattern}
@@ -32,9 +32,10 @@ pub record Assembled (S : Shape) (A : ℕ → ℕ → Float) (J : ℕ) (old new 
   pub after : (x : ℕ) → offset S (suc J) ≤ x → getD new x nan ≡ getD old x nan
 
 -- what the step asks: the first a floats are A's values, the work space stands after them
-pub record Ready (S : Shape) (J a : ℕ) (offs : List ℕ) (upd : List (List ℕ)) (u0 u1 : ℕ) (starts arows : List ℕ) (floats : List Float) (vlen : ℕ) (pl : List ℕ) : Type 0 where
+pub record Ready (S : Shape) (J a : ℕ) (offs : List ℕ) (upd : List ℕ) (count : ℕ) (starts arows : List ℕ) (floats : List Float) (vlen : ℕ) (pl : List ℕ) : Type 0 where
   pub shape : Rows S (suc J)
-  pub updates : Listed S J upd u0 u1
+  pub updates : Listed S J (inWords upd) count
+  pub words : 3 * count ≤ length upd
   pub offsets : Offsets S J offs
   pub lower : Lower starts arows (take a floats) (S .n)
   pub pattern : Pattern S J starts arows

@@ -1,8 +1,8 @@
 -- What the step asks of the structure that is lent to it: the analysis gives it. Assumes nothing.
 use mathlib.Core.Path.{_≡_}
 use mathlib.Core.Bool.{true}
-use mathlib.Core.List.{List, [], _∷_}
-use Prim.Native.Nat.{ℕ, suc, _+_, _-_, _≤_, _<_}
+use mathlib.Core.List.{List}
+use Prim.Native.Nat.{ℕ, suc, _+_, _*_, _-_, _≤_, _<_}
 use lib.ListN.{length, getD}
 use lib.Ieee.{Float, nan}
 use Rattle.areas.specs.Touch.{Touched}
@@ -10,6 +10,7 @@ use Rattle.panel.specs.View.{cell}
 use Rattle.step.specs.Update.{Updated}
 use Rattle.statement.specs.Shape.{Shape, first, width, height, rowsOf, trapezoid, offset}
 use Rattle.statement.specs.declared.Update.{Update}
+use Rattle.statement.specs.Areas.{noUpdate}
 use Rattle.statement.specs.Lists.{has}
 use Rattle.statement.specs.Input.{+0}
 use Rattle.statement.specs.Rules.{earlier}
@@ -32,34 +33,34 @@ pub record Rows (S : Shape) (N : ℕ) : Type 0 where
   pub ordered : (K : ℕ) → K < N → getD (S .starts) K 0 ≤ getD (S .starts) (suc K) 0
   pub listed : (K : ℕ) → K < N → getD (S .starts) (suc K) 0 ≤ length (S .rows)
 
--- an update's three words: the supernode, and the positions of its rows that are columns of the target
-abbrev pub word : List (List ℕ) → ℕ → ℕ → ℕ
-word upd u k = getD (getD upd u []) k 0
+-- the updates at hand, by their numbers: three words each
+abbrev pub inWords : List ℕ → ℕ → Update
+inWords words u = record { supernode = getD words (3 * u) 0; p1 = getD words (3 * u + 1) 0; p2 = getD words (3 * u + 2) 0 }
 
-abbrev pub source : List (List ℕ) → ℕ → ℕ
-source upd u = word upd u 0
+-- those of a list from lo on
+abbrev pub from : List Update → ℕ → ℕ → Update
+from us lo u = getD us (lo + u) noUpdate
 
-abbrev pub low : List (List ℕ) → ℕ → ℕ
-low upd u = word upd u 1
+-- an update's supernode, and the positions of its rows that are columns of the target
+abbrev pub source : (ℕ → Update) → ℕ → ℕ
+source upd u = upd u .supernode
 
-abbrev pub high : List (List ℕ) → ℕ → ℕ
-high upd u = word upd u 2
+abbrev pub low : (ℕ → Update) → ℕ → ℕ
+low upd u = upd u .p1
 
-abbrev pub triple : Update → List ℕ
-triple u = u .supernode ∷ u .p1 ∷ u .p2 ∷ []
+abbrev pub high : (ℕ → Update) → ℕ → ℕ
+high upd u = upd u .p2
 
--- the updates from u0 below u1 are those of J, rising
-pub record Listed (S : Shape) (J : ℕ) (upd : List (List ℕ)) (u0 u1 : ℕ) : Type 0 where
-  pub ordered : u0 ≤ u1
-  pub room : u1 ≤ length upd
-  pub before : (u : ℕ) → u0 ≤ u → u < u1 → source upd u < J
-  pub rising : (u t : ℕ) → u0 ≤ u → u < t → t < u1 → source upd u < source upd t
-  pub run : (u : ℕ) → u0 ≤ u → u < u1 → (low upd u ≤ high upd u) × (high upd u ≤ height S (source upd u))
-  pub past : (u : ℕ) → u0 ≤ u → u < u1 → width S (source upd u) ≤ low upd u
-  pub columns : (u q : ℕ) → u0 ≤ u → u < u1 → low upd u ≤ q → q < high upd u → (first S J ≤ row S (source upd u) q) × (row S (source upd u) q < first S (suc J))
-  pub only : (u q : ℕ) → u0 ≤ u → u < u1 → q < height S (source upd u) → first S J ≤ row S (source upd u) q → row S (source upd u) q < first S (suc J) → (low upd u ≤ q) × (q < high upd u)
-  pub nested : (u q : ℕ) → u0 ≤ u → u < u1 → low upd u ≤ q → q < height S (source upd u) → has (row S (source upd u) q) (rowsOf S J) ≡ true
-  pub all : (K j : ℕ) → K < J → first S J ≤ j → j < first S (suc J) → has j (rowsOf S K) ≡ true → (u : ℕ) × (u0 ≤ u) × (u < u1) × (source upd u ≡ K)
+-- the first count updates are those of J, rising
+pub record Listed (S : Shape) (J : ℕ) (upd : ℕ → Update) (count : ℕ) : Type 0 where
+  pub before : (u : ℕ) → u < count → source upd u < J
+  pub rising : (u t : ℕ) → u < t → t < count → source upd u < source upd t
+  pub run : (u : ℕ) → u < count → (low upd u ≤ high upd u) × (high upd u ≤ height S (source upd u))
+  pub past : (u : ℕ) → u < count → width S (source upd u) ≤ low upd u
+  pub columns : (u q : ℕ) → u < count → low upd u ≤ q → q < high upd u → (first S J ≤ row S (source upd u) q) × (row S (source upd u) q < first S (suc J))
+  pub only : (u q : ℕ) → u < count → q < height S (source upd u) → first S J ≤ row S (source upd u) q → row S (source upd u) q < first S (suc J) → (low upd u ≤ q) × (q < high upd u)
+  pub nested : (u q : ℕ) → u < count → low upd u ≤ q → q < height S (source upd u) → has (row S (source upd u) q) (rowsOf S J) ≡ true
+  pub all : (K j : ℕ) → K < J → first S J ≤ j → j < first S (suc J) → has j (rowsOf S K) ≡ true → (u : ℕ) × (u < count) × (source upd u ≡ K)
 
 -- where the stretches up to J's start
 pub record Offsets (S : Shape) (J : ℕ) (offs : List ℕ) : Type 0 where
@@ -81,7 +82,7 @@ pub record Own (S : Shape) (J off m w : ℕ) (pl : List ℕ) (vlen wlen : ℕ) :
   pub values : offset S (suc J) ≤ vlen
 
 -- what one update leaves
-abbrev pub Took : Shape → ℕ → List (List ℕ) → ℕ → List ℕ → List Float → List Float → Type 0
+abbrev pub Took : Shape → ℕ → (ℕ → Update) → ℕ → List ℕ → List Float → List Float → Type 0
 Took S J upd u pl old new =
     let K = source upd u in
     Updated pl (S .rows) old new (offset S J) (height S J) (getD (S .starts) K 0) (height S K) (width S K) (offset S K) (low upd u) (high upd u)

@@ -1,6 +1,6 @@
 // One supernode's step: its stretch of the values from A and the earlier supernodes' stretches.
 ghost use mathlib.Core.Path.{_≡_};
-ghost use Prim.Native.Nat.{ℕ, suc, _+_, _-_, _<_, _≤_};
+ghost use Prim.Native.Nat.{ℕ, suc, _+_, _*_, _-_, _<_, _≤_};
 ghost use lib.ListN.{getD, length, take, drop};
 ghost use lib.Ieee.{nan, binary64, sub};
 ghost use Rattle.laws.specs.Lent.{laid};
@@ -10,7 +10,7 @@ ghost use Rattle.laws.specs.Lower.{lowerValue, Lower, Pattern};
 ghost use Rattle.areas.specs.Touch.{Touched};
 ghost use Rattle.panel.specs.View.{cell};
 ghost use Rattle.step.specs.Answer.{Assembled, Ready, Stepped};
-ghost use Rattle.step.specs.Ready.{Rows, Listed, Offsets, Own, Took, Gathered, Fresh, Scattered, FromA};
+ghost use Rattle.step.specs.Ready.{Rows, inWords, Listed, Offsets, Own, Took, Gathered, Fresh, Scattered, FromA};
 ghost use Rattle.step.specs.Update.{spotOf, Target, Source, Updated};
 ghost use Rattle.step.specs.Spread.{through, Spread};
 use statement::Factored;
@@ -139,24 +139,22 @@ fn one_update(
     starts: &[usize],
     rows: &[usize],
     offs: &[usize],
-    upd: &[[usize; 3]],
-    u0: usize,
-    u1: usize,
+    upd: &[usize],
+    count: usize,
     u: usize,
     place: &[usize],
     work: &mut [f64],
 )
     requires { ⌜ Rows (laid n (now first) (now starts) (now rows)) (suc j) ⌝ }
-    requires { ⌜ Listed (laid n (now first) (now starts) (now rows)) j (now upd) u0 u1 ⌝ }
+    requires { ⌜ (Listed (laid n (now first) (now starts) (now rows)) j (inWords (now upd)) count) × (3 * count ≤ length (now upd)) ⌝ }
     requires { ⌜ Offsets (laid n (now first) (now starts) (now rows)) j (now offs) ⌝ }
     requires { ⌜ Own (laid n (now first) (now starts) (now rows)) j off m w (now place) (length (now values)) (length (now work)) ⌝ }
-    requires { ⌜ (u0 ≤ u) × (u < u1) ⌝ }
-    ensures { λ r. ⌜ Took (laid n (now (first .entry)) (now (starts .entry)) (now (rows .entry))) j (now (upd .entry)) u (now (place .entry)) (now (values .entry)) (now (values .exit)) ⌝ }
+    requires { ⌜ u < count ⌝ }
+    ensures { λ r. ⌜ Took (laid n (now (first .entry)) (now (starts .entry)) (now (rows .entry))) j (inWords (now (upd .entry))) u (now (place .entry)) (now (values .entry)) (now (values .exit)) ⌝ }
 {
-    let t = upd[u];
-    let k = t[0];
-    let p1 = t[1];
-    let p2 = t[2];
+    let k = upd[3 * u];
+    let p1 = upd[3 * u + 1];
+    let p2 = upd[3 * u + 2];
     let kr = starts[k];
     let km = starts[k + 1] - kr;
     let kw = first[k + 1] - first[k];
@@ -164,7 +162,7 @@ fn one_update(
     update(values, off, m, w, place, rows, kr, km, kw, kv, p1, p2, work);
 }
 
-// All updates of the supernode j.
+// All updates of the supernode j: count of them, three words each.
 fn updates(
     values: &mut [f64],
     j: usize,
@@ -176,20 +174,19 @@ fn updates(
     starts: &[usize],
     rows: &[usize],
     offs: &[usize],
-    upd: &[[usize; 3]],
-    u0: usize,
-    u1: usize,
+    upd: &[usize],
+    count: usize,
     place: &[usize],
     work: &mut [f64],
 )
     requires { ⌜ Rows (laid n (now first) (now starts) (now rows)) (suc j) ⌝ }
-    requires { ⌜ Listed (laid n (now first) (now starts) (now rows)) j (now upd) u0 u1 ⌝ }
+    requires { ⌜ (Listed (laid n (now first) (now starts) (now rows)) j (inWords (now upd)) count) × (3 * count ≤ length (now upd)) ⌝ }
     requires { ⌜ Offsets (laid n (now first) (now starts) (now rows)) j (now offs) ⌝ }
     requires { ⌜ Own (laid n (now first) (now starts) (now rows)) j off m w (now place) (length (now values)) (length (now work)) ⌝ }
     ensures { λ r. ⌜ Gathered (laid n (now (first .entry)) (now (starts .entry)) (now (rows .entry))) j (now (values .entry)) (now (values .exit)) ⌝ }
 {
-    let mut u = u0;
-    while u < u1 {
+    let mut u = 0;
+    while u < count {
         one_update(
             values,
             j,
@@ -202,8 +199,7 @@ fn updates(
             rows,
             offs,
             upd,
-            u0,
-            u1,
+            count,
             u,
             place,
             work,
@@ -302,16 +298,15 @@ fn assemble(
     starts: &[usize],
     rows: &[usize],
     offs: &[usize],
-    upd: &[[usize; 3]],
-    u0: usize,
-    u1: usize,
+    upd: &[usize],
+    count: usize,
     astarts: &[usize],
     arows: &[usize],
     floats: &mut [f64],
     place: &[usize],
 )
     requires { ⌜ Rows (laid n (now first) (now starts) (now rows)) (suc j) ⌝ }
-    requires { ⌜ Listed (laid n (now first) (now starts) (now rows)) j (now upd) u0 u1 ⌝ }
+    requires { ⌜ (Listed (laid n (now first) (now starts) (now rows)) j (inWords (now upd)) count) × (3 * count ≤ length (now upd)) ⌝ }
     requires { ⌜ Offsets (laid n (now first) (now starts) (now rows)) j (now offs) ⌝ }
     requires { ⌜ (Lower (now astarts) (now arows) (take a (now floats)) n) × (Pattern (laid n (now first) (now starts) (now rows)) j (now astarts) (now arows)) ⌝ }
     requires { ⌜ (Own (laid n (now first) (now starts) (now rows)) j off m w (now place) (length (now values)) (length (now floats) - a)) × (f ≡ getD (now first) j 0) × (a ≤ length (now floats)) ⌝ }
@@ -345,8 +340,7 @@ fn assemble(
         rows,
         offs,
         upd,
-        u0,
-        u1,
+        count,
         place,
         &mut floats[a..],
     );
@@ -369,16 +363,15 @@ pub fn step(
     starts: &[usize],
     rows: &[usize],
     offs: &[usize],
-    upd: &[[usize; 3]],
-    u0: usize,
-    u1: usize,
+    upd: &[usize],
+    count: usize,
     astarts: &[usize],
     arows: &[usize],
     values: &mut [f64],
     floats: &mut [f64],
     place: &[usize],
 ) -> StepAnswer
-    requires { ⌜ Ready (laid n (now first) (now starts) (now rows)) j a (now offs) (now upd) u0 u1 (now astarts) (now arows) (now floats) (length (now values)) (now place) ⌝ }
+    requires { ⌜ Ready (laid n (now first) (now starts) (now rows)) j a (now offs) (now upd) count (now astarts) (now arows) (now floats) (length (now values)) (now place) ⌝ }
     ensures { λ r. ⌜ Stepped (laid n (now (first .entry)) (now (starts .entry)) (now (rows .entry))) (lowerValue (now (astarts .entry)) (now (arows .entry)) (take a (now (floats .entry)))) j (now (values .entry)) (now (values .exit)) r ⌝ }
     ensures { λ r. ⌜ take a (now (floats .exit)) ≡ take a (now (floats .entry)) ⌝ }
 {
@@ -400,8 +393,7 @@ pub fn step(
         rows,
         offs,
         upd,
-        u0,
-        u1,
+        count,
         astarts,
         arows,
         floats,

@@ -1,4 +1,5 @@
 pub mod Zeros
+pub mod Laying
 pub mod Surveying
 pub mod Reading
 pub mod Clearing

@@ -10,7 +10,7 @@ use Rattle.statement.specs.Lists.{list}
 use Rattle.statement.specs.Input.{Matrix, WellFormed, pattern, rowsLength}
 use Rattle.statement.specs.Fill.{parent}
 use Rattle.statement.specs.Shape.{supernodes}
-use Rattle.statement.specs.Supernodes.{shapeOf, begins}
+use Rattle.statement.specs.Supernodes.{shapeOf}
 use Rattle.statement.specs.Areas.{held, short, needs}
 use Rattle.statement.specs.Calls.{factorNeeds}
 use Rattle.statement.specs.declared.Room.{Room}
@@ -39,7 +39,7 @@ pub enough-words : (M : Matrix) (r : Room) → short (factorNeeds M r) ≡ none 
 unfolding factorNeeds needs
 enough-words M r e = short-passed _ .0 e 6 (omega arith)
 
-module _ {M : Matrix} {cap : ℕ} {r : Room} {x : Findings} {permutation firsts starts groups tasks nine : List ℕ} {ten : List (List ℕ)} (l : Laid M cap r x permutation firsts starts groups tasks nine ten) where
+module _ {M : Matrix} {cap : ℕ} {r : Room} {x : Findings} {permutation firsts starts groups tasks words nine : List ℕ} (l : Laid M cap r x permutation firsts starts groups tasks words nine) where
   -- past the places stand the supernodal parents
   pub parents-past : drop (M .n) tasks ≡ shapeFor M .parents ++ l .rest
   parents-past = ap (drop (M .n)) (l .five) ∙ drop-at (list (pos (parent (pattern M) (M .n)) (M .n)) (M .n)) _ (M .n) (list-length _ (M .n))

@@ -1,38 +1,22 @@
--- What any call says: updates as three words, and a refusal. Assumes nothing.
-use mathlib.Core.Path.{_≡_, refl, sym, ap, _∙_}
+-- What any call says of a refusal. Assumes nothing.
+use mathlib.Core.Path.{_≡_, refl, ap, _∙_}
 use mathlib.Core.Logic.{_≢_}
-use mathlib.Core.List.{List, [], _∷_, _++_, map}
+use mathlib.Core.Bool.{Bool, true, false}
 use mathlib.Core.Option.{Option, none, some}
-use Prim.Native.Nat.{ℕ, zero, suc, _-_}
-use lib.ListN.{length, replicate, length-map}
-use Rattle.statement.specs.Answers.{answered}
+use Prim.Native.Nat.{ℕ, _≤_}
+use native.Mathlib.Omega.{arith}
+use lib.Dec.{eqb}
+use borrow.Author.Tests.{eqb-true, eqb-false, ne-eqb}
+use Rattle.statement.specs.Answers.{number, answered}
 use Rattle.statement.specs.Record.{emptyRecord}
-use Rattle.statement.specs.Areas.{Areas, held, noUpdate}
+use Rattle.statement.specs.Areas.{Areas}
 use Rattle.statement.specs.Calls.{settled, cleared}
 use Rattle.statement.specs.declared.Answer.{Answer}
-use Rattle.statement.specs.declared.Answer.the-variants.{Accepted}
+use Rattle.statement.specs.declared.Answer.the-variants.{Accepted, OverLimit, WrongLengths, WrongStarts, WrongColumn, ShortArea, OverCap, WrongOrder, WrongPivot, WrongSide, NoFactor, WrongStructure, WrongFrame}
 use Rattle.statement.specs.declared.Outcome.{Outcome}
 use Rattle.statement.specs.declared.Record.{Record}
 use Rattle.statement.specs.declared.Room.{Room}
-use Rattle.statement.specs.declared.Update.{Update}
-use Rattle.updates.specs.Scan.{triple}
-use Rattle.clearing.specs.Zeroed.{noTriple}
-
--- ---- updates as three words
-
-pub map-replicate : (m : ℕ) (u : Update) → map triple (replicate m u) ≡ replicate m (triple u)
-map-replicate zero u = refl
-map-replicate (suc m) u = ap (λ l. triple u ∷ l) (map-replicate m u)
-
-map-append : (a b : List Update) → map triple (a ++ b) ≡ map triple a ++ map triple b
-map-append [] b = refl
-map-append (x ∷ a) b = ap (λ l. triple x ∷ l) (map-append a b)
-
-pub map-held : (m : ℕ) (l : List Update) → held m noTriple (map triple l) ≡ map triple (held m noUpdate l)
-unfolding held
-map-held m l = sym (map-append l (replicate (m - length l) noUpdate) ∙ ap (λ x. map triple l ++ x) (map-replicate (m - length l) noUpdate ∙ ap (λ k. replicate (m - k) noTriple) (sym (length-map l triple))))
-
--- ---- a refusal
+use Rattle.survey.specs.Settles.{staleOf}
 
 -- what is returned with a
 pub refused-out : (r : Room) (f : Option Answer) (R : Record) (X : Areas) (x : Outcome) (a : Answer) → x .answer ≡ a → x .«record» ≡ emptyRecord → a ≢ Accepted → a ≡ answered f → x ≡ settled r f R X .returned
@@ -45,3 +29,39 @@ pub refused-areas : (r : Room) (f : Option Answer) (R : Record) (X : Areas) → 
 unfolding settled
 refused-areas r none R X h = absurd (h refl)
 refused-areas r (some a) R X h = refl
+
+-- ---- accepted or not
+
+zero-accepted : (a : Answer) → number a ≡ 0 → a ≡ Accepted
+zero-accepted Accepted e = refl
+zero-accepted OverLimit e = absurd (omega arith)
+zero-accepted (WrongLengths which) e = absurd (omega arith)
+zero-accepted (WrongStarts position) e = absurd (omega arith)
+zero-accepted (WrongColumn k) e = absurd (omega arith)
+zero-accepted (ShortArea area need) e = absurd (omega arith)
+zero-accepted (OverCap entries cap) e = absurd (omega arith)
+zero-accepted (WrongOrder position) e = absurd (omega arith)
+zero-accepted (WrongPivot k) e = absurd (omega arith)
+zero-accepted (WrongSide length) e = absurd (omega arith)
+zero-accepted NoFactor e = absurd (omega arith)
+zero-accepted WrongStructure e = absurd (omega arith)
+zero-accepted (WrongFrame line) e = absurd (omega arith)
+
+-- whatever follows from either
+pub accepted-or : {P : Type 0} (a : Answer) → (a ≡ Accepted → P) → (a ≢ Accepted → P) → P
+accepted-or {P} a here else = go (eqb (number a) 0) refl
+  where
+    go : (b : Bool) → eqb (number a) 0 ≡ b → P
+    go true e = here (zero-accepted a (eqb-true _ _ e))
+    go false e = else (λ q. eqb-false _ _ e (ap number q))
+
+-- how many updates are cleared
+pub stale-accepted : (a : Answer) (long : ℕ) → a ≡ Accepted → 0 ≡ staleOf a long
+stale-accepted a long e = rw e
+
+pub stale-refused : (a : Answer) (long : ℕ) → a ≢ Accepted → long ≡ staleOf a long
+stale-refused a long ne = rw (ne-eqb (number a) 0 (λ q. ne (zero-accepted a q)))
+
+-- so that they are there
+pub stale-fits : {k long m : ℕ} (a : Answer) → k ≡ staleOf a long → m ≡ long → k ≤ m
+stale-fits {k} {long} {m} a e q = accepted-or a (λ y. omega (arith, e, stale-accepted a long y)) (λ y. omega (arith, e, q, stale-refused a long y))

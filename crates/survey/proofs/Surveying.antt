@@ -2,11 +2,11 @@
 use mathlib.Core.Path.{_≡_, refl, sym, ap, _∙_}
 use mathlib.Core.Logic.{_≢_}
 use mathlib.Core.Bool.{Bool}
-use mathlib.Core.List.{List, map}
+use mathlib.Core.List.{List, _++_}
 use mathlib.Core.Option.{none}
-use Prim.Native.Nat.{ℕ, suc, _+_, _≤_}
+use Prim.Native.Nat.{ℕ, suc, _+_, _*_, _≤_}
 use native.Mathlib.Omega.{arith}
-use lib.ListN.{length, take, drop, replicate, length-map}
+use lib.ListN.{length, take, drop, replicate}
 use Rattle.statement.specs.Lists.{list}
 use Rattle.statement.specs.Input.{Matrix, WellFormed, pattern}
 use Rattle.statement.specs.Fill.{parent, count, entries}
@@ -33,16 +33,16 @@ use Rattle.measure.specs.Sized.{measureFault, Sized}
 use Rattle.measure.specs.declared.Totals.{Totals}
 use Rattle.measure.proofs.Stages.{or-first, or-next, short-none}
 use Rattle.analysis.specs.Phases.{Enough, Numbered, Analysed, laterNeeds}
-use Rattle.clearing.specs.Zeroed.{noTriple}
-use Rattle.updates.specs.Scan.{triple}
+use Rattle.updates.specs.Layout.{placesAt, ownersAt}
 use Rattle.survey.specs.Laid.{structureFault, Laid, Surveyed, Blank}
 use Rattle.survey.specs.declared.Findings.{Findings}
 use Rattle.survey.proofs.Zeros.{zeros-over, zeros-length}
+use Rattle.survey.proofs.Laying.{to-lay}
 
 module _ (M : Matrix) (cap : ℕ) (r : Room) where
   -- refused with a
-  pub stopped : (x : Findings) (a : Answer) {permutation firsts starts groups tasks nine : List ℕ} {ten : List (List ℕ)} → x .answer ≡ a → a ≢ Accepted → a ≡ answered (structureFault M cap r) → Surveyed M cap r x permutation firsts starts groups tasks nine ten
-  stopped x a e h f = record { ans = e ∙ f; go = λ q. absurd (h (sym e ∙ q)) }
+  pub stopped : (x : Findings) (a : Answer) {permutation firsts starts groups tasks words nine : List ℕ} → (x .answer ≡ a) × (x .supernodes ≡ 0) → a ≢ Accepted → a ≡ answered (structureFault M cap r) → Surveyed M cap r x permutation firsts starts groups tasks words nine
+  stopped x a e h f = record { ans = e .0 ∙ f; go = λ q. absurd (h (sym (e .0) ∙ q)); idle = λ _. e .1 }
 
   pub at-measure : answered (measureFault M cap r) ≢ Accepted → answered (measureFault M cap r) ≡ answered (structureFault M cap r)
   unfolding structureFault
@@ -74,7 +74,7 @@ pub record Long (n : ℕ) (r : Room) : Type 0 where
   pub four : n + 1 ≤ r .groups
   pub five : n + n ≤ r .tasks
   pub six : n ≤ r .top
-  pub seven : n ≤ r .words
+  pub seven : 24 * n + 24 ≤ r .words
 
 pub long : (M : Matrix) (r : Room) → short (factorNeeds M r) ≡ none → Long (M .n) r
 unfolding factorNeeds needs
@@ -88,7 +88,7 @@ long M r e = let m = short-passed _ .0 e in record {
   seven = omega (arith, m 6 (omega arith));
 }
 
-module _ (M : Matrix) (cap : ℕ) (r : Room) {permutation₀ firsts₀ starts₀ groups₀ tasks₀ top₀ words₀ nine₀ : List ℕ} {ten₀ : List (List ℕ)} (blank : Blank r permutation₀ firsts₀ starts₀ groups₀ tasks₀ top₀ words₀ nine₀ ten₀)
+module _ (M : Matrix) (cap : ℕ) (r : Room) {permutation₀ firsts₀ starts₀ groups₀ tasks₀ top₀ words₀ nine₀ : List ℕ} (blank : Blank r permutation₀ firsts₀ starts₀ groups₀ tasks₀ top₀ words₀ nine₀)
     (t : Totals) (groups₁ tasks₁ top₁ : List ℕ) (sized : Sized M cap r t groups₀ tasks₀ top₀ groups₁ tasks₁ top₁) where
   n : ℕ
   n = M .n
@@ -98,6 +98,12 @@ module _ (M : Matrix) (cap : ℕ) (r : Room) {permutation₀ firsts₀ starts₀
 
   -- ---- what the building asks
 
+  pub words-long : 24 * M .n + 24 ≤ length words₀
+  words-long = omega (arith, l .seven, zeros-length 0 {m = r .words} (blank .seven))
+
+  pub groups-long : M .n + 1 ≤ length groups₀
+  groups-long = omega (arith, l .four, zeros-length 0 {m = r .groups} (blank .four))
+
   pub parents-there : take (M .n) top₁ ≡ list (parent (pattern M) (M .n)) (M .n)
   parents-there = ap (take (M .n)) (sized .six) ∙ front-take (list (parent (pattern M) (M .n)) (M .n)) top₀ (M .n) (list-length _ (M .n))
 
@@ -105,23 +111,23 @@ module _ (M : Matrix) (cap : ℕ) (r : Room) {permutation₀ firsts₀ starts₀
   counts-there = ap (take (M .n)) (sized .four) ∙ front-take (list (count (pattern M) (M .n)) (M .n)) groups₀ (M .n) (list-length _ (M .n))
 
   module _ (g : length groups₁ ≡ length groups₀) (k : length tasks₁ ≡ length tasks₀) (o : length top₁ ≡ length top₀) where
-    pub enough : Enough (M .n) permutation₀ firsts₀ starts₀ groups₁ tasks₁ top₁ words₀
-    enough = record {
+    pub enough : (owners : List ℕ) → M .n ≤ length owners → Enough (M .n) permutation₀ firsts₀ starts₀ groups₁ tasks₁ top₁ owners
+    enough owners h = record {
       one = omega (arith, l .one, zeros-length 0 {m = r .permutation} (blank .one));
       two = omega (arith, l .two, zeros-length 0 {m = r .firsts} (blank .two));
       three = omega (arith, l .three, zeros-length 0 {m = r .starts} (blank .three));
       four = omega (arith, l .four, g, zeros-length 0 {m = r .groups} (blank .four));
       five = omega (arith, l .five, k, zeros-length 0 {m = r .tasks} (blank .five));
       six = omega (arith, l .six, o, zeros-length 0 {m = r .top} (blank .six));
-      seven = omega (arith, l .seven, zeros-length 0 {m = r .words} (blank .seven));
+      seven = h;
     }
 
     -- ---- what it leaves
 
-    module _ (x : Findings) (ns : ℕ) {permutation firsts starts groups tasks words nine : List ℕ} {ten : List (List ℕ)}
-        (z : Analysed (pattern M) (M .n) (t .entries) r Accepted ns (x .rows) (x .updates) permutation₀ firsts₀ starts₀ groups₁ tasks₁ nine₀ ten₀ permutation firsts starts groups tasks words nine ten)
+    module _ (x : Findings) (ns : ℕ) {permutation firsts starts groups tasks owners nine : List ℕ}
+        (z : Analysed (pattern M) (M .n) (t .entries) r Accepted ns (x .rows) (x .updates) permutation₀ firsts₀ starts₀ groups₁ tasks₁ nine₀ permutation firsts starts groups tasks owners nine)
         (xs : x .supernodes ≡ ns) (xe : x .entries ≡ t .entries) (xw : x .work ≡ t .work) where
-      h : Numbered (pattern M) (M .n) ns (x .rows) permutation₀ firsts₀ starts₀ tasks₁ permutation firsts starts tasks words
+      h : Numbered (pattern M) (M .n) ns (x .rows) permutation₀ firsts₀ starts₀ tasks₁ permutation firsts starts tasks owners
       h = z .numbered refl
 
       firsts-many : suc ns ≡ length (shapeFor M .firsts)
@@ -143,8 +149,8 @@ module _ (M : Matrix) (cap : ℕ) (r : Room) {permutation₀ firsts₀ starts₀
       groups-length : length groups₁ ≡ r .groups
       groups-length = g ∙ sym (zeros-length 0 {m = r .groups} (blank .four))
 
-      pub laid : Laid M cap r x permutation firsts starts groups tasks nine ten
-      laid = record {
+      pub laid : (words d : List ℕ) → M .n ≤ length owners → drop (ownersAt (M .n)) words ≡ owners → drop (placesAt (M .n)) words ≡ take ns groups ++ d → length words ≡ length words₀ → Laid M cap r x permutation firsts starts groups tasks words nine
+      laid words d long o g k = record {
         calm = past-later M cap r (sized .calm) (t .entries) (sized .entries) (sized .well) (sym (z .answers));
         well = sized .well;
         room = sized .room;
@@ -161,11 +167,11 @@ module _ (M : Matrix) (cap : ℕ) (r : Room) {permutation₀ firsts₀ starts₀
         rest = drop ns (drop (M .n) tasks₁);
         five = h .five;
         nine-holds = held-over (r .rows) 0 _ _ refl (blank .nine-holds) (z .area-nine refl);
-        ten-holds = held-over (r .updates) noTriple (map triple (updates (shapeFor M))) (length (updates (shapeFor M))) (sym (length-map (updates (shapeFor M)) triple)) (blank .ten-holds) (z .area-ten refl);
+        laying = rw xs (to-lay words d (sized .well .columns) (sized .well .small) z long o g (omega (arith, k, words-long)));
       }
 
 -- what was built, once its answer is known
-pub accepted-form : {s : ℕ → ℕ → Bool} {n e : ℕ} {r : Room} {a : Answer} {ns rows updates : ℕ} {permutation₀ firsts₀ starts₀ groups₀ tasks₀ nine₀ permutation firsts starts groups tasks words nine : List ℕ} {ten₀ ten : List (List ℕ)} → a ≡ Accepted
-    → Analysed s n e r a ns rows updates permutation₀ firsts₀ starts₀ groups₀ tasks₀ nine₀ ten₀ permutation firsts starts groups tasks words nine ten
-    → Analysed s n e r Accepted ns rows updates permutation₀ firsts₀ starts₀ groups₀ tasks₀ nine₀ ten₀ permutation firsts starts groups tasks words nine ten
+pub accepted-form : {s : ℕ → ℕ → Bool} {n e : ℕ} {r : Room} {a : Answer} {ns rows updates : ℕ} {permutation₀ firsts₀ starts₀ groups₀ tasks₀ nine₀ permutation firsts starts groups tasks words nine : List ℕ} → a ≡ Accepted
+    → Analysed s n e r a ns rows updates permutation₀ firsts₀ starts₀ groups₀ tasks₀ nine₀ permutation firsts starts groups tasks words nine
+    → Analysed s n e r Accepted ns rows updates permutation₀ firsts₀ starts₀ groups₀ tasks₀ nine₀ permutation firsts starts groups tasks words nine
 accepted-form q h = rw q at h

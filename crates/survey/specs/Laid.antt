@@ -1,6 +1,7 @@
 -- All tests of the structure, and what stands in the areas once they pass. Definitions only.
 use mathlib.Core.Path.{_≡_}
-use mathlib.Core.List.{List, _++_, map}
+use mathlib.Core.Logic.{_≢_}
+use mathlib.Core.List.{List, _++_}
 use mathlib.Core.Option.{Option, none}
 use Prim.Native.Nat.{ℕ, _*_}
 use lib.ListN.{length, replicate}
@@ -19,8 +20,7 @@ use Rattle.statement.specs.declared.Room.{Room}
 use Rattle.laws.specs.Numbered.{shapeFor}
 use Rattle.laws.proofs.Postorder.{pos}
 use Rattle.measure.specs.Sized.{measureFault}
-use Rattle.updates.specs.Scan.{triple}
-use Rattle.clearing.specs.Zeroed.{noTriple}
+use Rattle.updates.specs.Laying.{ToLay}
 use Rattle.survey.specs.declared.Findings.{Findings}
 
 -- 1, 2, 3, 4, 5 (areas 1 to 8), 6, 5 (areas 9 to 11), 12
@@ -30,8 +30,8 @@ structureFault M cap r =
     orElse (short (factorLater (analysis M) r)) (
     test (analysis M .differs) WrongStructure none))
 
--- the areas hold it; tasks has the places of the columns and then the supernodal parents; top and words are scratch
-pub record Laid (M : Matrix) (cap : ℕ) (r : Room) (x : Findings) (permutation firsts starts groups tasks nine : List ℕ) (ten : List (List ℕ)) : Type 0 where
+-- the areas hold it; tasks has the places of the columns and then the supernodal parents, words what the updates are laid from; top is scratch
+pub record Laid (M : Matrix) (cap : ℕ) (r : Room) (x : Findings) (permutation firsts starts groups tasks words nine : List ℕ) : Type 0 where
   pub calm : structureFault M cap r ≡ none
   pub well : WellFormed M
   pub room : short (factorNeeds M r) ≡ none
@@ -48,14 +48,21 @@ pub record Laid (M : Matrix) (cap : ℕ) (r : Room) (x : Findings) (permutation 
   pub rest : List ℕ
   pub five : tasks ≡ list (pos (parent (pattern M) (M .n)) (M .n)) (M .n) ++ (shapeFor M .parents ++ rest)
   pub nine-holds : nine ≡ held (r .rows) 0 (shapeFor M .rows)
-  pub ten-holds : ten ≡ held (r .updates) noTriple (map triple (updates (shapeFor M)))
+  pub laying : ToLay (M .n) (x .supernodes) (M .starts) (M .rows) firsts starts nine words (r .updates)
 
-pub record Surveyed (M : Matrix) (cap : ℕ) (r : Room) (x : Findings) (permutation firsts starts groups tasks nine : List ℕ) (ten : List (List ℕ)) : Type 0 where
+-- where it is refused there are no supernodes, so that no updates are laid
+pub record Surveyed (M : Matrix) (cap : ℕ) (r : Room) (x : Findings) (permutation firsts starts groups tasks words nine : List ℕ) : Type 0 where
   pub ans : x .answer ≡ answered (structureFault M cap r)
-  pub go : x .answer ≡ Accepted → Laid M cap r x permutation firsts starts groups tasks nine ten
+  pub go : x .answer ≡ Accepted → Laid M cap r x permutation firsts starts groups tasks words nine
+  pub idle : x .answer ≢ Accepted → x .supernodes ≡ 0
 
--- how long the areas are, and that they are zero
-pub record Blank (r : Room) (permutation firsts starts groups tasks top words nine : List ℕ) (ten : List (List ℕ)) : Type 0 where
+-- the same once the updates are laid: the words are not what they were
+pub record Found (M : Matrix) (cap : ℕ) (r : Room) (x : Findings) (permutation firsts starts groups tasks nine : List ℕ) : Type 0 where
+  pub words : List ℕ
+  pub surveyed : Surveyed M cap r x permutation firsts starts groups tasks words nine
+
+-- how long the areas but the updates are, and that they are zero
+pub record Blank (r : Room) (permutation firsts starts groups tasks top words nine : List ℕ) : Type 0 where
   pub one : permutation ≡ replicate (r .permutation) 0
   pub two : firsts ≡ replicate (r .firsts) 0
   pub three : starts ≡ replicate (r .starts) 0
@@ -64,4 +71,3 @@ pub record Blank (r : Room) (permutation firsts starts groups tasks top words ni
   pub six : top ≡ replicate (r .top) 0
   pub seven : words ≡ replicate (r .words) 0
   pub nine-holds : nine ≡ replicate (r .rows) 0
-  pub ten-holds : ten ≡ replicate (r .updates) noTriple

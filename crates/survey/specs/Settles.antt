@@ -1,14 +1,17 @@
 -- What a call leaves, held to what the statement says of it. Definitions only.
 use mathlib.Core.Path.{_≡_}
-use mathlib.Core.List.{List, map}
+use mathlib.Core.Bool.{cond}
+use mathlib.Core.List.{List}
 use Prim.Native.Nat.{ℕ}
+use lib.Dec.{eqb}
+use Rattle.statement.specs.Answers.{number}
 use Rattle.statement.specs.Calls.{Settled}
-use Rattle.statement.specs.declared.Answer.the-variants.{Accepted}
+use Rattle.statement.specs.declared.Answer.{Answer}
 use Rattle.statement.specs.declared.Outcome.{Outcome}
-use Rattle.updates.specs.Scan.{triple}
+use Rattle.statement.specs.declared.Update.{Update}
 
--- what is returned, and areas 1 to 7, 9 and 10, an update as its three words
-pub record Settles (said : Settled) (x : Outcome) (permutation firsts starts groups tasks top words nine : List ℕ) (ten : List (List ℕ)) : Type 0 where
+-- what is returned, and areas 1 to 7 and 9
+pub record SettlesPlain (said : Settled) (x : Outcome) (permutation firsts starts groups tasks top words nine : List ℕ) : Type 0 where
   pub out : x ≡ said .returned
   pub one : permutation ≡ said .areas .permutation
   pub two : firsts ≡ said .areas .firsts
@@ -18,16 +21,12 @@ pub record Settles (said : Settled) (x : Outcome) (permutation firsts starts gro
   pub six : top ≡ said .areas .top
   pub seven : words ≡ said .areas .words
   pub nine-holds : nine ≡ said .areas .rows
-  pub ten-holds : ten ≡ map triple (said .areas .updates)
 
--- the same before the scratch is cleared, of an accepted call alone
-pub record Fills (said : Settled) (x : Outcome) (permutation firsts starts groups tasks top nine : List ℕ) (ten : List (List ℕ)) : Type 0 where
-  pub out : x ≡ said .returned
-  pub one : x .answer ≡ Accepted → permutation ≡ said .areas .permutation
-  pub two : x .answer ≡ Accepted → firsts ≡ said .areas .firsts
-  pub three : x .answer ≡ Accepted → starts ≡ said .areas .starts
-  pub four : x .answer ≡ Accepted → groups ≡ said .areas .groups
-  pub five : x .answer ≡ Accepted → tasks ≡ said .areas .tasks
-  pub six : x .answer ≡ Accepted → top ≡ said .areas .top
-  pub nine-holds : x .answer ≡ Accepted → nine ≡ said .areas .rows
-  pub ten-holds : x .answer ≡ Accepted → ten ≡ map triple (said .areas .updates)
+-- and area 10
+pub record Settles (said : Settled) (x : Outcome) (permutation firsts starts groups tasks top words nine : List ℕ) (ten : List Update) : Type 0 where
+  pub plain : SettlesPlain said x permutation firsts starts groups tasks top words nine
+  pub ten-holds : ten ≡ said .areas .updates
+
+-- how many of area 10's updates are cleared at the end: those of a refused call
+abbrev pub staleOf : Answer → ℕ → ℕ
+staleOf a long = cond (eqb (number a) 0) 0 long

@@ -1,10 +1,13 @@
 // The structure of a matrix, from the input to the areas: every test of the analysis, and then the lists.
 ghost use Rattle.statement.specs.Input.{matrix};
 ghost use Rattle.survey.specs.Laid.{Surveyed, Blank};
+ghost use Rattle.survey.specs.Settles.{staleOf};
 ghost use mathlib.Core.Path.{_≡_};
 use analysis::build;
+use areas::copy_part;
 use measure::measure;
 use statement::Answer;
+use statement::Outcome;
 use statement::Room;
 
 // The answer, and what was counted.
@@ -17,8 +20,8 @@ pub struct Findings {
     pub work: usize,
 }
 
-fn refused(answer: Answer) -> Findings
-    ensures { λ r. ⌜ r .answer ≡ answer ⌝ }
+pub fn refused(answer: Answer) -> Findings
+    ensures { λ r. ⌜ (r .answer ≡ answer) × (r .supernodes ≡ 0) ⌝ }
 {
     Findings {
         answer,
@@ -31,7 +34,7 @@ fn refused(answer: Answer) -> Findings
 }
 
 // The areas are zero before. Where it is accepted they hold the structure, tasks the places of the columns and then the
-// supernodal parents; top and words are scratch.
+// supernodal parents, words the supernode of each column and where each target's updates start; top is scratch.
 pub fn survey(
     n: usize,
     input_starts: &[usize],
@@ -47,10 +50,9 @@ pub fn survey(
     top: &mut [usize],
     words: &mut [usize],
     rows: &mut [usize],
-    updates: &mut [[usize; 3]],
 ) -> Findings
-    requires { ⌜ Blank room (now permutation) (now firsts) (now starts) (now groups) (now tasks) (now top) (now words) (now rows) (now updates) ⌝ }
-    ensures { λ x. ⌜ Surveyed (matrix n (now («input_starts» .entry)) (now («input_rows» .entry)) (now («input_values» .entry))) cap room x (now (permutation .exit)) (now (firsts .exit)) (now (starts .exit)) (now (groups .exit)) (now (tasks .exit)) (now (rows .exit)) (now (updates .exit)) ⌝ }
+    requires { ⌜ Blank room (now permutation) (now firsts) (now starts) (now groups) (now tasks) (now top) (now words) (now rows) ⌝ }
+    ensures { λ x. ⌜ Surveyed (matrix n (now («input_starts» .entry)) (now («input_rows» .entry)) (now («input_values» .entry))) cap room x (now (permutation .exit)) (now (firsts .exit)) (now (starts .exit)) (now (groups .exit)) (now (tasks .exit)) (now (words .exit)) (now (rows .exit)) ⌝ }
 {
     let t = measure(
         n,
@@ -67,6 +69,7 @@ pub fn survey(
     let Answer::Accepted = a else {
         return refused(a);
     };
+    let owners = 5 * n + 1;
     let c = build(
         n,
         t.entries,
@@ -79,14 +82,14 @@ pub fn survey(
         groups,
         tasks,
         top,
-        words,
+        &mut words[owners..],
         rows,
-        updates,
     );
     let b = c.answer;
     let Answer::Accepted = b else {
         return refused(b);
     };
+    copy_part(c.supernodes, groups, &mut words[n + 1..]);
     Findings {
         answer: Answer::Accepted,
         supernodes: c.supernodes,
@@ -95,4 +98,21 @@ pub fn survey(
         entries: t.entries,
         work: t.work,
     }
+}
+
+pub fn supernodes(x: Findings) -> usize
+    ensures { λ r. ⌜ r ≡ x .supernodes ⌝ }
+{
+    x.supernodes
+}
+
+// How many of area 10's updates, so long, are to be cleared.
+pub fn stale(x: Outcome, long: usize) -> usize
+    ensures { λ r. ⌜ r ≡ staleOf (x .answer) long ⌝ }
+{
+    let a = x.answer;
+    let Answer::Accepted = a else {
+        return long;
+    };
+    0
 }

@@ -2,13 +2,13 @@
 use mathlib.Core.Path.{_≡_, refl, sym, ap, ap₂, _∙_}
 use mathlib.Core.Logic.{⊎-elim}
 use mathlib.Core.Bool.{Bool, true, false, cond, not, _&&_}
-use mathlib.Core.List.{List, [], _∷_, _++_, map, append-nil}
+use mathlib.Core.List.{[], _∷_, append-nil}
 use Prim.Native.Nat.{ℕ, zero, suc, _+_, _-_, _≤_, _<_}
 use native.Mathlib.Omega.{arith}
 use native.Mathlib.Nat.{le-refl, eq-or-lt-of-le, add-zero}
 use native.Mathlib.Decide.{le-ind}
 use lib.Dec.{T, not-T, ltb, leb, leb→le, le→leb, nleb→lt}
-use lib.ListN.{length, getD, length-append, length-map, List·getD-map}
+use lib.ListN.{length, getD, length-append}
 use Rattle.statement.specs.Lists.{bit, tally, sum, joined}
 use Rattle.statement.specs.Input.{Matrix, WellFormed, pattern}
 use Rattle.statement.specs.Shape.{Shape, supernodes, first, width, height}
@@ -22,22 +22,10 @@ use Rattle.laws.proofs.Ranks.{tally-yes, tally-no, tally-mono}
 use Rattle.laws.proofs.Tally.{count-into}
 use Rattle.laws.proofs.Sum.{sum-ext, sum-add, sum-bit}
 use Rattle.areas.specs.Buckets.{start}
-use Rattle.areas.proofs.Lists.{getD-any}
 use Rattle.areas.proofs.Buckets.{start-sum, joined-at}
-use Rattle.updates.specs.Scan.{triple, updated, from, hits}
+use Rattle.updates.specs.Scan.{from, hits}
 use Rattle.updates.proofs.Made.{Made, made-of}
 use Rattle.updates.proofs.Scans.{hits-iff, from-rise, from-most, scan-begin}
-
--- ---- lists
-
-map-append : {A B : Type 0} (f : A → B) (a b : List A) → map f (a ++ b) ≡ map f a ++ map f b
-map-append f [] b = refl
-map-append f (x ∷ a) b = ap (λ l. f x ∷ l) (map-append f a b)
-
-map-joined : {A B : Type 0} (f : A → B) (b : ℕ → List A) (m : ℕ) → map f (joined b m) ≡ joined (λ j. map f (b j)) m
-unfolding joined
-map-joined f b zero = refl
-map-joined f b (suc m) = map-append f (joined b m) (b m) ∙ ap (λ l. l ++ map f (b m)) (map-joined f b m)
 
 -- ---- the updates of target J
 
@@ -68,46 +56,32 @@ module _ (S : Shape) (J : ℕ) where
   unfolding updatesOf
   updates-length m h = start-hits J (le-refl J) ∙ sym (none-later m h)
 
-  pub updated-length : (m : ℕ) → J ≤ m → length (updated S J) ≡ tally (λ I. hits S I J) m
-  updated-length m h = length-map (updatesOf S J) triple ∙ updates-length m h
-
   module _ (K : ℕ) (t : T (hits S K J)) where
     k : K < J
     k = hits-iff S K J .0 t .0
 
-    pub updated-below : tally (λ I. hits S I J) K < length (updated S J)
-    updated-below = omega (arith, updated-length J (le-refl J), tally-yes (λ I. hits S I J) K t, tally-mono (λ I. hits S I J) (suc K) J k)
+    pub updates-below : tally (λ I. hits S I J) K < length (updatesOf S J)
+    updates-below = omega (arith, updates-length J (le-refl J), tally-yes (λ I. hits S I J) K t, tally-mono (λ I. hits S I J) (suc K) J k)
 
     is : update S J K ≡ record { supernode = K; p1 = from S K J; p2 = from S K (suc J) } ∷ []
     unfolding update
     is = rw (ltb-yes (hits-iff S K J .0 t .1))
 
-    at : (u : Update) → getD (updatesOf S J) (start (update S J) K + 0) u ≡ record { supernode = K; p1 = from S K J; p2 = from S K (suc J) }
-    unfolding updatesOf
-    at u = ap (λ l. getD l (start (update S J) K + 0) u) (sym (append-nil (joined (update S J) J)))
-        ∙ joined-at u (update S J) J [] K 0 k (rw is (le-refl 1)) ∙ ap (λ l. getD l 0 u) is
-
     -- K's stands where those of the supernodes below K end
-    pub updated-at : getD (updated S J) (tally (λ I. hits S I J) K) [] ≡ K ∷ from S K J ∷ from S K (suc J) ∷ []
-    updated-at =
-        let u : Update = record { supernode = K; p1 = from S K J; p2 = from S K (suc J) } in
-        getD-any (updated S J) (tally (λ I. hits S I J) K) [] (triple u) updated-below
-        ∙ List·getD-map triple (updatesOf S J) (tally (λ I. hits S I J) K) u
-        ∙ ap triple (ap (λ x. getD (updatesOf S J) x u) (sym (start-hits K (omega (arith, k))) ∙ sym (add-zero (start (update S J) K))) ∙ at u)
+    pub updates-at : (u : Update) → getD (updatesOf S J) (tally (λ I. hits S I J) K) u ≡ record { supernode = K; p1 = from S K J; p2 = from S K (suc J) }
+    unfolding updatesOf
+    updates-at u = ap (λ x. getD (joined (update S J) J) x u) (sym (start-hits K (omega (arith, k))) ∙ sym (add-zero (start (update S J) K)))
+        ∙ ap (λ l. getD l (start (update S J) K + 0) u) (sym (append-nil (joined (update S J) J)))
+        ∙ joined-at u (update S J) J [] K 0 k (rw is (le-refl 1)) ∙ ap (λ l. getD l 0 u) is
 
 -- ---- all
 
-module _ (S : Shape) where
-  pub updates-joined : map triple (updates S) ≡ joined (updated S) (supernodes S)
-  unfolding updates
-  updates-joined = map-joined triple (updatesOf S) (supernodes S)
+pub updates-joined : (S : Shape) → updates S ≡ joined (updatesOf S) (supernodes S)
+unfolding updates
+updates-joined S = refl
 
-  pub updates-start : start (updated S) (supernodes S) ≡ length (updates S)
-  updates-start = ap length (sym updates-joined) ∙ length-map (updates S) triple
-
-  -- where each target's start
-  pub start-same : (J : ℕ) → start (updated S) J ≡ start (updatesOf S) J
-  start-same J = ap length (sym (map-joined triple (updatesOf S) J)) ∙ length-map (joined (updatesOf S) J) triple
+pub updates-start : (S : Shape) → start (updatesOf S) (supernodes S) ≡ length (updates S)
+updates-start S = ap length (sym (updates-joined S))
 
 -- ---- how many
 
@@ -167,8 +141,8 @@ module _ (S : Shape) (m : Made S) where
   few-updates = omega (
     arith,
     updates-start S,
-    start-sum (updated S) (supernodes S),
-    sum-ext (λ J. length (updated S J)) (λ J. tally (λ K. hits S K J) (supernodes S)) (supernodes S) (λ J l. updated-length S J (supernodes S) (omega arith)),
+    start-sum (updatesOf S) (supernodes S),
+    sum-ext (λ J. length (updatesOf S J)) (λ J. tally (λ K. hits S K J) (supernodes S)) (supernodes S) (λ J l. updates-length S J (supernodes S) (omega arith)),
     sum-swap (hits S) (supernodes S) (supernodes S),
     sum-both (λ K. tally (λ J. hits S K J) (supernodes S)) (width S) (height S) (supernodes S) few,
     widths (supernodes S) (le-refl _),

@@ -1,23 +1,24 @@
 -- The two passes over all supernodes: from what the areas hold to what is answered. Assumes nothing.
 use mathlib.Core.Path.{_≡_, refl, sym, ap, _∙_}
-use mathlib.Core.List.{List, [], _++_, map}
+use mathlib.Core.List.{List, _++_}
 use Prim.Native.Nat.{ℕ, suc, _+_, _≤_, _<_}
 use native.Mathlib.Omega.{arith}
 use native.Mathlib.Nat.{le-refl}
 use native.Mathlib.Numerals.{add-one}
-use lib.ListN.{length, getD, take, drop, replicate, length-append, length-take, length-replicate, getD-replicate, List·getD-append}
-use lib.Seq.{getD-take}
+use lib.ListN.{length, getD, drop, replicate, length-append, length-replicate, getD-replicate, List·getD-append}
 use Rattle.statement.specs.Lists.{list, sum, tally}
 use Rattle.statement.specs.Shape.{Shape, supernodes}
 use Rattle.statement.specs.Supernodes.{updatesOf, updates, updateStarts, shapeOf}
+use Rattle.statement.specs.Areas.{noUpdate}
+use Rattle.statement.specs.declared.Update.{Update}
 use Rattle.laws.proofs.Ranks.{list-at}
 use Rattle.laws.proofs.Sum.{sum-ext}
 use Rattle.laws.proofs.Tally.{count-to}
 use Rattle.areas.specs.Buckets.{start, Holds, Beyond}
 use Rattle.areas.proofs.Lists.{list-ext}
 use Rattle.areas.proofs.Buckets.{buckets-start, buckets-over, start-sum, holds-of}
-use Rattle.updates.specs.Scan.{triple, updated, hits, shaped, Laid, Counted, Put}
-use Rattle.updates.proofs.Grouped.{updates-length, updated-length, updates-joined, updates-start, start-same}
+use Rattle.updates.specs.Scan.{hits, shaped, Laid, Counted, Put}
+use Rattle.updates.proofs.Grouped.{updates-length, updates-joined, updates-start}
 use Rattle.updates.proofs.Turns.{laid-made}
 
 module _ (S : Shape) (ns : ℕ) (q : ns ≡ supernodes S) where
@@ -48,33 +49,20 @@ module _ (S : Shape) (ns : ℕ) (q : ns ≡ supernodes S) where
   starts-hold d l e = holds-of _ (suc ns) l d (rw q e)
 
   pub last-start : (d l : List ℕ) → l ≡ updateStarts S ++ d → getD l ns 0 ≡ length (updates S)
-  last-start d l e = starts-hold d l e .at ns (le-refl (suc ns)) ∙ ap (start (updatesOf S)) q ∙ sym (start-same S (supernodes S)) ∙ updates-start S
+  last-start d l e = starts-hold d l e .at ns (le-refl (suc ns)) ∙ ap (start (updatesOf S)) q ∙ updates-start S
 
   -- ---- put
 
-  start-at : (J : ℕ) → J ≤ ns → getD (updateStarts S) J 0 ≡ start (updated S) J
-  unfolding updateStarts
-  start-at J h = list-at (start (updatesOf S)) (suc (supernodes S)) J 0 (omega arith) ∙ sym (start-same S J)
+  pub put-begin : (next : List ℕ) (l : List Update) → Holds (λ J. getD (updateStarts S) J 0) ns next → length (updates S) ≤ length l → Put S 0 next l
+  unfolding tally updateStarts
+  put-begin next l g f = buckets-start noUpdate (updatesOf S) (supernodes S) next l (omega (arith, g .fits)) (omega (arith, updates-start S))
+      (λ j k. g .at j (omega arith) ∙ list-at (start (updatesOf S)) (suc (supernodes S)) j 0 (omega arith))
 
-  pub put-begin : (begin d next : List ℕ) (l : List (List ℕ)) → Holds (λ J. getD (updateStarts S) J 0) (suc ns) begin → ns ≤ length d → length (updates S) ≤ length l
-      → next ≡ take ns begin ++ drop ns d → Put S 0 next l
-  unfolding tally
-  put-begin begin d next l g h f e = buckets-start [] (updated S) (supernodes S) next l (rw (e, length-append) (omega (arith, taken))) (omega (arith, updates-start S)) (λ j k.
-      let z : j < ns = omega arith in
-      ap (λ x. getD x j 0) e ∙ List·getD-append (take ns begin) (drop ns d) 0 j (omega (arith, taken)) ∙ getD-take ns begin j 0 z ∙ g .at j (omega arith) ∙ start-at j (omega arith))
-    where
-      taken : length (take ns begin) ≡ ns
-      taken = simp length-take (omega (arith, g .fits))
-
-  pub put-over : {k : ℕ} {next : List ℕ} {l₀ l : List (List ℕ)} → Put S k next l → Beyond (start (updated S) (supernodes S)) l₀ l → k ≤ ns → ns ≤ k
-      → l ≡ map triple (updates S) ++ drop (length (updates S)) l₀
-  put-over {k} w b x y = rw (updates-joined S, ← (updates-start S)) (buckets-over [] (updated S) w (λ j h. sym (updated-length S j k (omega arith))) b)
+  pub put-over : {k : ℕ} {next : List ℕ} {l₀ l : List Update} → Put S k next l → Beyond (length (updates S)) l₀ l → k ≤ ns → ns ≤ k → l ≡ updates S ++ drop (length (updates S)) l₀
+  put-over {k} w b x y = rw (updates-joined S) (buckets-over noUpdate (updatesOf S) w (λ j h. sym (updates-length S j k (omega arith))) (rw (updates-joined S) at b))
 
 pub counted-next : {S : Shape} {k : ℕ} {l : List ℕ} → Counted S (suc k) l → Counted S (k + 1) l
 counted-next {k} w = rw (add-one k) w
-
-pub put-next : (S : Shape) (k : ℕ) {next : List ℕ} {l : List (List ℕ)} → Put S (suc k) next l → Put S (k + 1) next l
-put-next S k w = rw (add-one k) w
 
 -- counts are small
 pub counts-small : {n ns : ℕ} {starts rows firsts own from list : List ℕ} → Laid n ns starts rows firsts own from list → (counts : List ℕ) → Holds (λ J. length (updatesOf (shaped n starts rows) J)) ns counts

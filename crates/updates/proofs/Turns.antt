@@ -2,15 +2,15 @@
 use mathlib.Core.Path.{_≡_, refl, sym, ap, _∙_}
 use mathlib.Core.Logic.{⊎-elim}
 use mathlib.Core.Bool.{Bool, true, false, _&&_}
-use mathlib.Core.List.{List, [], _∷_}
+use mathlib.Core.List.{List}
 use Prim.Native.Nat.{ℕ, suc, _+_, _-_, _≤_, _<_}
 use native.Mathlib.Omega.{arith}
 use native.Mathlib.Nat.{le-refl, eq-or-lt-of-le}
 use native.Mathlib.Numerals.{add-one}
-use lib.Dec.{T, leb}
+use lib.Dec.{leb}
 use lib.ListN.{length, getD, set, length-set}
 use lib.Seq.{getD-set-same, getD-set-other}
-use Rattle.statement.specs.Lists.{bit, tally}
+use Rattle.statement.specs.Lists.{bit}
 use Rattle.statement.specs.Input.{stored}
 use Rattle.statement.specs.Shape.{Shape, supernodes, first, width, height}
 use Rattle.statement.specs.Supernodes.{owner, shapeOf}
@@ -18,13 +18,10 @@ use Rattle.laws.proofs.Bools.{split-at, lt-or-le}
 use Rattle.laws.proofs.Input.{upper}
 use Rattle.laws.proofs.FactorTree.{upper′}
 use Rattle.laws.proofs.Tally.{count-to}
-use Rattle.areas.specs.Buckets.{Beyond, Buckets, start}
-use Rattle.areas.proofs.Buckets.{buckets-ext, bucket-in, bucket-below, bucket-push, beyond-same, beyond-set, beyond-by}
-use Rattle.updates.specs.Scan.{updated, from, hits, met, shaped, Laid, RunEnd, Counted, Put}
+use Rattle.updates.specs.Scan.{from, hits, met, shaped, Laid, RunEnd, Counted}
 use Rattle.updates.proofs.Made.{Made, made-of}
 use Rattle.updates.proofs.Scans as Scans
 use Rattle.updates.proofs.Scans.{Scan, rowAt}
-use Rattle.updates.proofs.Grouped.{updated-below, updated-at}
 
 -- ---- the end of a run
 
@@ -108,13 +105,18 @@ module _ (n ns : ℕ) (starts rows firsts own from′ list : List ℕ) (g : Laid
       r1 : getD from′ (k + 1) 0 ≡ getD (shaped n starts rows .starts) (suc k) 0
       r1 = ap (λ y. getD from′ y 0) (add-one k) ∙ starts-at (suc k) kl
 
+  -- no target yet
+  pub opens-none : opens .place .t ≡ k
+  unfolding opens
+  opens-none = refl
+
   -- the row at place x of k's
   row-of : (x : ℕ) → x < height (shaped n starts rows) k → getD list (getD (shaped n starts rows .starts) k 0 + x) 0 ≡ rowAt (shaped n starts rows) k x
   row-of x h = g .list-is .at (getD (S .starts) k 0 + x) (omega (arith, m .next k kn, m .within (suc k) kn)) ∙ m .row-at k x kn h
 
   -- from position p
   module _ (p : ℕ) (w : Place (shaped n starts rows) k p) (h : p < getD from′ (k + 1) 0) where
-    x-in : w .x < height (shaped n starts rows) k
+    pub x-in : w .x < height (shaped n starts rows) k
     x-in = omega (arith, opens .next, w .at)
 
     row-is : getD list p 0 ≡ rowAt (shaped n starts rows) k (w .x)
@@ -184,10 +186,14 @@ module _ (n ns : ℕ) (starts rows firsts own from′ list : List ℕ) (g : Laid
       scan = Scans.scan-next S m k kn (w .t) (w .x) (w .scan) x-in;
     }
 
+    pub turn-past : {q : ℕ} (e : RunEnd list p (getD from′ (k + 1) 0) (getD firsts (getD own (getD list p 0) 0 + 1) 0) q) → turn-next e .t ≡ target
+    unfolding turn-next
+    turn-past e = refl
+
     pub turn-more : {q : ℕ} → RunEnd list p (getD from′ (k + 1) 0) (getD firsts (getD own (getD list p 0) 0 + 1) 0) q → p < q
     turn-more e = omega (arith, turned e, w .at, Scans.scan-more S m k kn (w .t) (w .x) (w .scan) x-in)
 
--- ---- the two passes
+-- ---- the count
 
 pub record Counting (S : Shape) (k : ℕ) (c₀ counts : List ℕ) (p : ℕ) : Type 0 where
   pub place : Place S k p
@@ -195,13 +201,7 @@ pub record Counting (S : Shape) (k : ℕ) (c₀ counts : List ℕ) (p : ℕ) : T
   pub is : (j : ℕ) → j < supernodes S → getD counts j 0 ≡ met S k (place .t) j
   pub same-len : length counts ≡ length c₀
 
-pub record Putting (S : Shape) (k : ℕ) (next₀ : List ℕ) (l₀ : List (List ℕ)) (next : List ℕ) (l : List (List ℕ)) (p : ℕ) : Type 0 where
-  pub place : Place S k p
-  pub lists : Buckets [] (updated S) (supernodes S) (met S k (place .t)) next l
-  pub beyond : Beyond (start (updated S) (supernodes S)) l₀ l
-  pub same-len : length next ≡ length next₀
-
-bit-to : (b : Bool) → bit b ≤ 1
+pub bit-to : (b : Bool) → bit b ≤ 1
 bit-to true = le-refl 1
 bit-to false = omega arith
 
@@ -259,76 +259,3 @@ module _ (n ns : ℕ) (starts rows firsts own from′ list : List ℕ) (g : Laid
 
     pub counting-over : getD from′ (k + 1) 0 ≤ p → Counted (shaped n starts rows) (suc k) counts
     counting-over h = record { room = w .room; is = λ j a. w .is j a ∙ Scans.scan-over Q mm k kk (w .place .t) (w .place .x) (w .place .scan) (omega (arith, w .place .at, opens n ns starts rows firsts own from′ list g k kl .next)) j a }
-
-  pub putting-begin : {next : List ℕ} {l : List (List ℕ)} → Put (shaped n starts rows) k next l
-      → Putting (shaped n starts rows) k next l next l (getD from′ k 0 + (getD firsts (k + 1) 0 - getD firsts k 0))
-  unfolding opens
-  putting-begin {next} {l} w = record {
-    place = opens n ns starts rows firsts own from′ list g k kl .place;
-    lists = buckets-ext [] (updated Q) w (met Q k k) (λ j h. Scans.met-none Q mm k kk j);
-    beyond = beyond-same _ l;
-    same-len = refl;
-  }
-
-  module _ {next₀ : List ℕ} {l₀ : List (List ℕ)} {next : List ℕ} {l : List (List ℕ)} {p : ℕ} (w : Putting (shaped n starts rows) k next₀ l₀ next l p) where
-    module _ (h : p < getD from′ (k + 1) 0) where
-      tn′ : Turn n ns starts rows firsts own from′ list g k kl p (w .place) h (getD own (getD list p 0) 0)
-      tn′ = turn n ns starts rows firsts own from′ list g k kl p (w .place) h
-
-      xi′ : w .place .x < height (shaped n starts rows) k
-      xi′ = x-in n ns starts rows firsts own from′ list g k kl p (w .place) h
-
-      abbrev tj : ℕ
-      tj = target n ns starts rows firsts own from′ list g k kl p (w .place) h
-
-      tj-in : tj < supernodes (shaped n starts rows)
-      tj-in = omega (arith, tn′ .is, tn′ .in-nodes, g .number)
-
-      hit : T (hits (shaped n starts rows) k tj)
-      hit = Scans.scan-hits Q mm k kk (w .place .t) (w .place .x) (w .place .scan) xi′
-
-      -- tj has none of k's yet
-      none : met (shaped n starts rows) k (w .place .t) tj ≡ tally (λ i. hits (shaped n starts rows) i tj) k
-      none = omega (arith, Scans.met-same Q mm k kk (w .place .t) (w .place .x) (w .place .scan) xi′, bit-to (hits Q k tj && leb tj tj))
-
-      more : met (shaped n starts rows) k (w .place .t) tj < length (updated (shaped n starts rows) tj)
-      more = omega (arith, none, updated-below Q tj k hit)
-
-      value : k ∷ from (shaped n starts rows) k tj ∷ from (shaped n starts rows) k (suc tj) ∷ [] ≡ getD (updated (shaped n starts rows) tj) (met (shaped n starts rows) k (w .place .t) tj) []
-      value = sym (ap (λ y. getD (updated Q tj) y []) none ∙ updated-at Q tj k hit)
-
-      pub putting-reads : (p < length list) × (getD list p 0 < length own) × (getD own (getD list p 0) 0 < length next) × (getD own (getD list p 0) 0 + 1 < length firsts) × (getD next (getD own (getD list p 0) 0) 0 < length l)
-      putting-reads = (tn′ .in-list, tn′ .in-own, omega (arith, tn′ .is, tj-in, w .lists .room), tn′ .in-first, rw (tn′ .is) (bucket-in [] (updated Q) (w .lists) tj tj-in more))
-
-      pub putting-more : {q : ℕ} {next′ : List ℕ} {l′ : List (List ℕ)} → RunEnd list p (getD from′ (k + 1) 0) (getD firsts (getD own (getD list p 0) 0 + 1) 0) q
-          → next′ ≡ set next (getD own (getD list p 0) 0) (getD next (getD own (getD list p 0) 0) 0 + 1)
-          → l′ ≡ set l (getD next (getD own (getD list p 0) 0) 0) (k ∷ (p - getD from′ k 0) ∷ (q - getD from′ k 0) ∷ [])
-          → Putting (shaped n starts rows) k next₀ l₀ next′ l′ q
-      unfolding turn-next
-      putting-more {q} {next′} {l′} e e1 e2 = record {
-        place = turn-next n ns starts rows firsts own from′ list g k kl p (w .place) h e;
-        lists = rw (e1′, e2′) (bucket-push [] (updated Q) (w .lists) tj tj-in more value (met Q k tj)
-            (Scans.met-same Q mm k kk (w .place .t) (w .place .x) (w .place .scan) xi′)
-            (λ i a ne. Scans.met-other Q mm k kk (w .place .t) (w .place .x) (w .place .scan) xi′ i ne));
-        beyond = beyond-by _ (w .beyond) (rw e2′ (beyond-set _ l (getD next tj 0) _ (bucket-below [] (updated Q) (w .lists) tj tj-in more)));
-        same-len = rw e1′ (simp length-set (w .same-len));
-      }
-        where
-          e1′ : next′ ≡ set next tj (getD next tj 0 + 1)
-          e1′ = rw (← (tn′ .is)) e1
-
-          base : getD from′ k 0 ≡ getD (shaped n starts rows .starts) k 0
-          base = opens n ns starts rows firsts own from′ list g k kl .base
-
-          a-is : p - getD from′ k 0 ≡ from (shaped n starts rows) k tj
-          a-is = omega (arith, base, w .place .at, Scans.scan-from Q mm k kk (w .place .t) (w .place .x) (w .place .scan) xi′)
-
-          b-is : q - getD from′ k 0 ≡ from (shaped n starts rows) k (suc tj)
-          b-is = omega (arith, base, turned n ns starts rows firsts own from′ list g k kl p (w .place) h e)
-
-          e2′ : l′ ≡ set l (getD next tj 0) (k ∷ from (shaped n starts rows) k tj ∷ from (shaped n starts rows) k (suc tj) ∷ [])
-          e2′ = rw (← a-is, ← b-is, ← (tn′ .is)) e2
-
-    pub putting-over : getD from′ (k + 1) 0 ≤ p → Put (shaped n starts rows) (suc k) next l
-    putting-over h = buckets-ext [] (updated Q) (w .lists) (λ j. tally (λ i. hits Q i j) (suc k))
-        (λ j a. sym (Scans.scan-over Q mm k kk (w .place .t) (w .place .x) (w .place .scan) (omega (arith, w .place .at, opens n ns starts rows firsts own from′ list g k kl .next)) j a))

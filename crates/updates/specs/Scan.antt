@@ -1,7 +1,7 @@
 -- What the scan for updates reads, and what it keeps. Definitions only.
 use mathlib.Core.Path.{_≡_}
 use mathlib.Core.Bool.{Bool, _&&_}
-use mathlib.Core.List.{List, [], _∷_, map}
+use mathlib.Core.List.{List}
 use Prim.Native.Nat.{ℕ, suc, _+_, _≤_, _<_}
 use lib.Dec.{ltb, leb}
 use lib.ListN.{length, getD}
@@ -9,17 +9,10 @@ use Rattle.statement.specs.Lists.{bit, tally}
 use Rattle.statement.specs.Input.{Columns, columnsLimit, stored}
 use Rattle.statement.specs.Shape.{Shape, supernodes, first, rowsOf}
 use Rattle.statement.specs.Supernodes.{owner, below, updatesOf}
+use Rattle.statement.specs.Areas.{noUpdate}
 use Rattle.statement.specs.declared.Update.{Update}
 use Rattle.laws.specs.Numbered.{shape}
 use Rattle.areas.specs.Buckets.{Holds, Buckets}
-
--- an update as three words
-abbrev pub triple : Update → List ℕ
-triple u = u .supernode ∷ u .p1 ∷ u .p2 ∷ []
-
--- the updates of target J
-abbrev pub updated : Shape → ℕ → List (List ℕ)
-updated S J = map triple (updatesOf S J)
 
 -- where J's columns begin among K's rows
 abbrev pub from : Shape → ℕ → ℕ → ℕ
@@ -61,5 +54,5 @@ pub record Counted (S : Shape) (k : ℕ) (counts : List ℕ) : Type 0 where
   pub is : (J : ℕ) → J < supernodes S → getD counts J 0 ≡ tally (λ K. hits S K J) k
 
 -- and stand in their places
-abbrev pub Put : Shape → ℕ → List ℕ → List (List ℕ) → Type 0
-Put S k next l = Buckets [] (updated S) (supernodes S) (λ J. tally (λ K. hits S K J) k) next l
+abbrev pub Put : Shape → ℕ → List ℕ → List Update → Type 0
+Put S k next l = Buckets noUpdate (updatesOf S) (supernodes S) (λ J. tally (λ K. hits S K J) k) next l

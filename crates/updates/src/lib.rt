@@ -1,13 +1,13 @@
 // The updates: for each supernode, the lower ones that have rows among its columns. The input names the structure only.
 ghost use mathlib.Core.Path.{_≡_};
-ghost use mathlib.Core.List.{_++_, _∷_, [], map};
-ghost use Prim.Native.Nat.{suc, _+_, _≤_, _<_};
-ghost use lib.ListN.{length, getD, set, drop};
-ghost use Rattle.statement.specs.Shape.{supernodes};
+ghost use mathlib.Core.List.{_++_};
+ghost use Prim.Native.Nat.{suc, _+_, _^_, _≤_, _<_};
+ghost use lib.ListN.{length, getD, drop};
 ghost use Rattle.statement.specs.Supernodes.{updatesOf, updates, updateStarts};
-ghost use Rattle.areas.specs.Buckets.{Holds, Beyond, start};
-ghost use Rattle.updates.specs.Scan.{triple, updated, shaped, Laid, RunEnd, Counted, Put};
-use areas::copy_part;
+ghost use Rattle.areas.specs.Buckets.{Holds};
+ghost use Rattle.updates.specs.Scan.{shaped, Laid, RunEnd, Counted};
+ghost use Rattle.updates.specs.Layout.{placesAt, offsetsAt};
+ghost use Rattle.updates.specs.Laying.{spotted, ToScan, Scanned};
 use areas::fill_part;
 use areas::sums::sums;
 
@@ -121,83 +121,46 @@ pub fn update_starts(
     to[ns]
 }
 
-// Supernode k's update of supernode j, at the end of j's.
-fn put(k: usize, a: usize, b: usize, j: usize, next: &mut [usize], to: &mut [[usize; 3]])
-    requires { ⌜ (j < length (now next)) × (getD (now next) j 0 < length (now to)) ⌝ }
-    ensures { λ _. ⌜ now (next .exit) ≡ set (now (next .entry)) j (getD (now (next .entry)) j 0 + 1) ⌝ }
-    ensures { λ _. ⌜ now (to .exit) ≡ set (now (to .entry)) (getD (now (next .entry)) j 0) (k ∷ a ∷ b ∷ []) ⌝ }
+// Run i of a source, of target j: its place in area 10, which is j's next, and its positions.
+fn spot(j: usize, i: usize, a: usize, b: usize, n: usize, words: &mut [usize])
+    requires { ⌜ (j < n) × (i < n) × (offsetsAt n ≤ length (now words)) × (getD (now words) (placesAt n + j) 0 + 1 < 2 ^ 64) ⌝ }
+    ensures { λ _. ⌜ now (words .exit) ≡ spotted n j i a b (now (words .entry)) ⌝ }
 {
-    let at = next[j];
-    next[j] = at + 1;
-    to[at] = [k, a, b];
+    let place = words[n + 1 + j];
+    let at = 2 * n + 1 + 3 * i;
+    words[n + 1 + j] = place + 1;
+    words[at] = place;
+    words[at + 1] = a;
+    words[at + 2] = b;
 }
 
-// Supernode k's updates, each put to its target's.
-fn put_one(
+// Supernode k's updates, each spotted: how many there are.
+pub fn scan_one(
     n: usize,
     ns: usize,
     input_starts: &[usize],
     input_rows: &[usize],
     firsts: &[usize],
-    own: &[usize],
-    from: &[usize],
-    list: &[usize],
+    starts: &[usize],
+    rows: &[usize],
     k: usize,
-    next: &mut [usize],
-    to: &mut [[usize; 3]],
-)
-    requires { ⌜ (k < ns) × Laid n ns (now «input_starts») (now «input_rows») (now firsts) (now own) (now from) (now list) ⌝ }
-    requires { ⌜ Put (shaped n (now «input_starts») (now «input_rows»)) k (now next) (now to) ⌝ }
-    ensures { λ _. ⌜ Put (shaped n (now («input_starts» .entry)) (now («input_rows» .entry))) (suc k) (now (next .exit)) (now (to .exit)) ⌝ }
-    ensures { λ _. ⌜ Beyond (start (updated (shaped n (now («input_starts» .entry)) (now («input_rows» .entry)))) (supernodes (shaped n (now («input_starts» .entry)) (now («input_rows» .entry))))) (now (to .entry)) (now (to .exit)) ⌝ }
+    words: &mut [usize],
+) -> usize
+    requires { ⌜ ToScan n ns (now «input_starts») (now «input_rows») (now firsts) (now starts) (now rows) k (now words) ⌝ }
+    ensures { λ r. ⌜ Scanned (shaped n (now («input_starts» .entry)) (now («input_rows» .entry))) n k (now (words .entry)) (now (words .exit)) r ⌝ }
 {
-    let base = from[k];
+    let owners = 5 * n + 1;
+    let base = starts[k];
     let mut p = base + (firsts[k + 1] - firsts[k]);
-    let e = from[k + 1];
+    let e = starts[k + 1];
+    let mut i = 0;
     while p < e {
-        let r = list[p];
-        let j = own[r];
-        let q = run_end(list, p, e, firsts[j + 1]);
-        put(k, p - base, q - base, j, next, to);
+        let r = rows[p];
+        let j = words[owners + r];
+        let q = run_end(rows, p, e, firsts[j + 1]);
+        spot(j, i, p - base, q - base, n, words);
+        i += 1;
         p = q;
     }
-}
-
-// The updates of all ns supernodes, grouped by target, lower supernode first, from their starts in begin.
-pub fn updates(
-    n: usize,
-    ns: usize,
-    input_starts: &[usize],
-    input_rows: &[usize],
-    firsts: &[usize],
-    own: &[usize],
-    from: &[usize],
-    list: &[usize],
-    begin: &[usize],
-    next: &mut [usize],
-    to: &mut [[usize; 3]],
-)
-    requires { ⌜ Laid n ns (now «input_starts») (now «input_rows») (now firsts) (now own) (now from) (now list) ⌝ }
-    requires { ⌜ Holds (λ J. getD (updateStarts (shaped n (now «input_starts») (now «input_rows»))) J 0) (suc ns) (now begin) ⌝ }
-    requires { ⌜ (ns ≤ length (now next)) × (length (updates (shaped n (now «input_starts») (now «input_rows»))) ≤ length (now to)) ⌝ }
-    ensures { λ _. ⌜ now (to .exit) ≡ map triple (updates (shaped n (now («input_starts» .entry)) (now («input_rows» .entry)))) ++ drop (length (updates (shaped n (now («input_starts» .entry)) (now («input_rows» .entry))))) (now (to .entry)) ⌝ }
-{
-    copy_part(ns, begin, next);
-    let mut k = 0;
-    while k < ns {
-        put_one(
-            n,
-            ns,
-            input_starts,
-            input_rows,
-            firsts,
-            own,
-            from,
-            list,
-            k,
-            next,
-            to,
-        );
-        k += 1;
-    }
+    i
 }

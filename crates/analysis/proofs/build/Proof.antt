@@ -1,8 +1,7 @@
 -- `analysis::build` meets its contract, phase by phase. Assumes nothing.
-use Rattle.analysis.proofs.Verdicts.{nine-short, verdict-is, ten-fits, refused-is, short-not}
-use Rattle.analysis.proofs.Linked.{few-in, placed-of, laid-of, groups-hold, groups-same}
+use Rattle.analysis.proofs.Verdicts.{nine-short, verdict-is, refused-is, short-not}
+use Rattle.analysis.proofs.Linked.{few-in, placed-of, groups-same}
 use Rattle.room.proofs.Short.{accepted-first}
-use Rattle.laws.specs.Numbered.{shape}
 use Rattle.statement.specs.Input.{stored}
 use borrow.Author.Needs.{needs}
 use mathlib.Core.Path.{sym, _∙_}
@@ -119,80 +118,57 @@ returns-2 c =
     let e = verdict-is (stored (a .input-starts .now) (a .input-rows .now)) (a .n) (a .entries) (a .room) (numbered′ .ensures .many) (f .0) (f .1) v in
     refused-is (stored (a .input-starts .now) (a .input-rows .now)) (a .n) (a .entries) (a .room) (refused2′ .ensures ∙ e) (λ q. accepted-first (rw (sym (refused2′ .ensures) ∙ q) at (match′ .keys2)))
 
-updates-requires : tie.Need-updates-requires
-updates-requires c κs =
-    let pre′ = c .before .before .before .before .before .before .before .before .before .before .before .before .before .before .before .before .before .before .before .before .before .before .before .before .before .before .before .before .before .before .before .before .before .before .before .before .before .before .before .before .before .before .before .before .before .before .before .before .before .before .before .before .before .before .before .before .before .before .before .pre in
-    let args′ = c .before .before .before .before .before .before .before .before .before .before .before .before .before .before .before .before .before .before .before .before .before .before .before .before .before .before .before .before .before .before .before .before .before .before .before .before .before .before .before .before .before .before .before .before .before .before .before .before .before .before .before .before .before .before .before .before .before .before .before .args in
-    let numbered′ = c .before .before .before .before .before .before .before .before .before .before .before .before .before .before .before .before .before .before .before .before .before .before .before .before .before .before .before .before .before .before .before .before .before .before .before .before .before .before .before .before .before .numbered in
-    let filled′ = c .before .before .before .before .before .before .before .before .before .before .before .before .before .before .before .before .filled in
-    let words′ = c .before .before .before .before .before .before .before .before .before .before .before .before .before .before .before .before .before .before .before .before .before .before .before .before .before .before .before .before .words in
-    let verdict′ = c .before .before .before .before .before .before .before .before .before .verdict in
-    let enum-told′ = c .before .before .before .before .before .before .before .enum-told in
-    let top′ = c .before .before .before .before .before .before .before .before .before .before .before .before .before .before .before .before .before .before .before .before .before .before .before .before .before .before .before .before .before .before .top in
-    let top2′ = c .before .before .before .before .before .before .before .before .before .before .before .before .before .top2 in
-    let q = pre′ in let a = args′ in let w = numbered′ .ensures in let f = filled′ .ensures in
-    let s = stored (a .input-starts .now) (a .input-rows .now) in
-    let p = placed-of (a .n) (a .input-starts .now) (a .input-rows .now) (q .0 .0) (q .0 .1) w (omega (arith, q .1 .0 .seven, words′ .given)) in
-    let e = verdict-is s (a .n) (a .entries) (a .room) (w .many) (f .0 .0) (f .0 .1) (verdict′ .ensures) in
-    let t = ten-fits s (a .n) (a .entries) (a .room) (sym (enum-told′ .given .1) ∙ e) in
-    (laid-of p _ (f .1 .1), (groups-hold (shape s (a .n)) _ (w .number) (f .1 .0), (omega (arith, few-in (a .n) (a .input-starts .now) (a .input-rows .now) (q .0 .0) (q .0 .1) w, q .1 .0 .six, top′ .given, top2′ .given), omega (arith, t, q .1 .1 .1))))
-
 same-length-16 : tie.Need-same-length-16
 same-length-16 c =
-    let permutation′ = c .before .before .before .before .before .before .before .before .before .before .before .before .before .before .before .before .before .before .before .before .before .before .before .before .before .before .before .before .before .before .before .before .before .before .before .before .before .before .before .before .before .before .before .before .permutation in
+    let permutation′ = c .before .before .before .before .before .before .before .before .before .before .before .before .before .before .before .before .before .before .before .before .before .before .before .before .before .before .before .before .before .before .before .before .before .permutation in
     omega (arith, permutation′ .given)
 
 same-length-17 : tie.Need-same-length-17
 same-length-17 c =
-    let firsts′ = c .before .before .before .before .before .before .before .before .before .before .before .before .before .before .before .before .before .before .before .before .before .before .before .before .before .before .before .before .before .before .before .before .before .before .before .before .before .before .before .before .before .before .firsts in
+    let firsts′ = c .before .before .before .before .before .before .before .before .before .before .before .before .before .before .before .before .before .before .before .before .before .before .before .before .before .before .before .before .before .before .before .firsts in
     omega (arith, firsts′ .given)
 
 same-length-18 : tie.Need-same-length-18
 same-length-18 c =
-    let starts′ = c .before .before .before .before .before .before .before .before .before .before .before .before .before .before .before .before .before .before .before .before .before .before .before .before .before .before .before .before .before .before .before .before .before .before .before .before .before .before .before .before .starts in
+    let starts′ = c .before .before .before .before .before .before .before .before .before .before .before .before .before .before .before .before .before .before .before .before .before .before .before .before .before .before .before .before .before .starts in
     omega (arith, starts′ .given)
 
 same-length-19 : tie.Need-same-length-19
 same-length-19 c =
-    let groups′ = c .before .before .before .before .before .before .before .before .before .before .before .before .before .before .before .before .before .before .before .before .before .before .before .before .before .before .before .before .before .before .before .before .before .before .before .before .before .before .groups in
-    let groups2′ = c .before .before .before .before .before .before .before .before .before .before .before .before .before .before .before .before .before .before .before .groups2 in
+    let groups′ = c .before .before .before .before .before .before .before .before .before .before .before .before .before .before .before .before .before .before .before .before .before .before .before .before .before .before .before .groups in
+    let groups2′ = c .before .before .before .before .before .before .before .before .groups2 in
     omega (arith, groups′ .given, groups2′ .given)
 
 same-length-20 : tie.Need-same-length-20
 same-length-20 c =
-    let tasks′ = c .before .before .before .before .before .before .before .before .before .before .before .before .before .before .before .before .before .before .before .before .before .before .before .before .before .before .before .before .before .before .before .before .before .before .before .before .tasks in
+    let tasks′ = c .before .before .before .before .before .before .before .before .before .before .before .before .before .before .before .before .before .before .before .before .before .before .before .before .before .tasks in
     omega (arith, tasks′ .given)
 
 same-length-21 : tie.Need-same-length-21
 same-length-21 c =
-    let top′ = c .before .before .before .before .before .before .before .before .before .before .before .before .before .before .before .before .before .before .before .before .before .before .before .before .before .before .before .before .before .before .before .before .before .before .top in
-    let top2′ = c .before .before .before .before .before .before .before .before .before .before .before .before .before .before .before .before .before .top2 in
-    let top3′ = c .before .before .top3 in
-    omega (arith, top′ .given, top2′ .given, top3′ .given)
+    let top′ = c .before .before .before .before .before .before .before .before .before .before .before .before .before .before .before .before .before .before .before .before .before .before .before .top in
+    let top2′ = c .before .before .before .before .before .before .top2 in
+    omega (arith, top′ .given, top2′ .given)
 
 same-length-22 : tie.Need-same-length-22
 same-length-22 c =
-    let words′ = c .before .before .before .before .before .before .before .before .before .before .before .before .before .before .before .before .before .before .before .before .before .before .before .before .before .before .before .before .before .before .before .before .words in
+    let words′ = c .before .before .before .before .before .before .before .before .before .before .before .before .before .before .before .before .before .before .before .before .before .words in
     omega (arith, words′ .given)
 
 same-length-23 : tie.Need-same-length-23
 same-length-23 c = omega arith
 
-same-length-24 : tie.Need-same-length-24
-same-length-24 c = omega arith
-
 returns-3 : tie.Need-returns-3
 returns-3 c =
-    let args′ = c .before .before .before .before .before .before .before .before .before .before .before .before .before .before .before .before .before .before .before .before .before .before .before .before .before .before .before .before .before .before .before .before .before .before .before .before .before .before .before .before .before .before .before .before .before .before .before .before .before .before .before .before .before .before .before .before .before .before .before .before .before .before .before .args in
-    let numbered′ = c .before .before .before .before .before .before .before .before .before .before .before .before .before .before .before .before .before .before .before .before .before .before .before .before .before .before .before .before .before .before .before .before .before .before .before .before .before .before .before .before .before .before .before .before .before .numbered in
-    let filled′ = c .before .before .before .before .before .before .before .before .before .before .before .before .before .before .before .before .before .before .before .before .filled in
-    let enum-told′ = c .before .before .before .before .before .before .before .before .before .before .before .enum-told in
-    let verdict′ = c .before .before .before .before .before .before .before .before .before .before .before .before .before .verdict in
-    let groups′ = c .before .before .before .before .before .before .before .before .before .before .before .before .before .before .before .before .before .before .before .before .before .before .before .before .before .before .before .before .before .before .before .before .before .before .before .before .before .before .groups in
-    let updates′ = c .before .before .before .updates in
+    let args′ = c .before .before .before .before .before .before .before .before .before .before .before .before .before .before .before .before .before .before .before .before .before .before .before .before .before .before .before .before .before .before .before .before .before .before .before .before .before .before .before .before .before .before .before .before .before .before .before .before .before .before .before .before .args in
+    let numbered′ = c .before .before .before .before .before .before .before .before .before .before .before .before .before .before .before .before .before .before .before .before .before .before .before .before .before .before .before .before .before .before .before .before .before .before .numbered in
+    let filled′ = c .before .before .before .before .before .before .before .before .before .filled in
+    let enum-told′ = c .enum-told in
+    let verdict′ = c .before .before .verdict in
+    let groups′ = c .before .before .before .before .before .before .before .before .before .before .before .before .before .before .before .before .before .before .before .before .before .before .before .before .before .before .before .groups in
     let a = args′ in let w = numbered′ .ensures in let f = filled′ .ensures in
     let s = stored (a .input-starts .now) (a .input-rows .now) in
-    record { answers = sym (enum-told′ .given .1) ∙ verdict-is s (a .n) (a .entries) (a .room) (w .many) (f .0 .0) (f .0 .1) (verdict′ .ensures); numbered = λ _. w; count = λ _. f .0 .0; four = λ _. groups-same w (numbered′ .last .1 .1 .1 .1 .1 .1 .0) (a .groups .now) (f .1 .0) (omega (arith, groups′ .given)); area-nine = λ _. f .1 .1; area-ten = λ _. updates′ .ensures }
+    record { answers = sym (enum-told′ .given .1) ∙ verdict-is s (a .n) (a .entries) (a .room) (w .many) (f .0 .0) (f .0 .1) (verdict′ .ensures); numbered = λ _. w; count = λ _. f .0 .0; four = λ _. groups-same w (numbered′ .last .1 .1 .1 .1 .1 .1 .0) (a .groups .now) (f .1 .0) (omega (arith, groups′ .given)); area-nine = λ _. f .1 .1 }
 
 pub build-spec : {M : Type 1} → statement M
-build-spec = tie.close (tie.spec numbered-requires refused-requires same-length same-length-2 same-length-3 same-length-4 same-length-5 same-length-6 same-length-7 returns filled-requires verdict-requires enum-told refused-requires-2 same-length-8 same-length-9 same-length-10 same-length-11 same-length-12 same-length-13 same-length-14 same-length-15 returns-2 updates-requires same-length-16 same-length-17 same-length-18 same-length-19 same-length-20 same-length-21 same-length-22 same-length-23 same-length-24 returns-3)
+build-spec = tie.close (tie.spec numbered-requires refused-requires same-length same-length-2 same-length-3 same-length-4 same-length-5 same-length-6 same-length-7 returns filled-requires verdict-requires enum-told refused-requires-2 same-length-8 same-length-9 same-length-10 same-length-11 same-length-12 same-length-13 same-length-14 same-length-15 returns-2 same-length-16 same-length-17 same-length-18 same-length-19 same-length-20 same-length-21 same-length-22 same-length-23 returns-3)

@@ -1,6 +1,6 @@
 -- `ready::ready` meets its contract: call by call. Assumes nothing.
 use Rattle.laws.specs.Numbered.{shapeFor}
-use Rattle.ready.proofs.Laying.{w₁, w₂, room, fewer, sited-in, rising, of-shape, tasks-long, long₁, long₂, long₃, laid}
+use Rattle.ready.proofs.Laying.{w₁, w₂, room, fewer, sited-in, rising, of-shape, tasks-long, long₁, long₂, long₃, laid, kept}
 use Rattle.statement.specs.Input.{matrix}
 use mathlib.Core.Path.{sym, _∙_}
 use lib.ListN.{length, drop}
@@ -41,7 +41,7 @@ lower-requires : tie.Need-lower-requires
 lower-requires c κs =
     let pre′ = c .before .before .before .before .before .before .before .before .before .before .before .before .before .pre in
     let args′ = c .before .before .before .before .before .before .before .before .before .before .before .before .before .args in
-    ((pre′ .0 .well .beside, sited-in (pre′ .0)), (pre′ .1 .0, room (4 * args′ .n + 1) _ (args′ .words .now) (omega (arith, pre′ .1)), omega (arith, pre′ .1, length-take-le (length (args′ .input-rows .now)) (args′ .floats .now) (omega (arith, pre′ .1)))))
+    ((pre′ .0 .well .beside, sited-in (pre′ .0)), (pre′ .1 .0, room (9 * args′ .n + 1) _ (args′ .words .now) (omega (arith, pre′ .1)), omega (arith, pre′ .1, length-take-le (length (args′ .input-rows .now)) (args′ .floats .now) (omega (arith, pre′ .1)))))
 
 mul-ob : tie.Need-mul-ob
 mul-ob c = search needs
@@ -67,7 +67,7 @@ offsets-requires c κs =
     let lower′ = c .before .before .before .before .before .before .before .lower in
     let pre′ = c .before .before .before .before .before .before .before .before .before .before .before .before .before .before .before .before .before .before .before .before .before .pre in
     let long = long₁ (args′ .n) (args′ .words .now) (lower′ .last .1 .1 .1 .1 .1 .1 .1 .0) (omega (arith, pre′ .1)) (lower′ .kept .1 .1 .1 .1 .1 .1 .1 .0) in
-    (rising (pre′ .0), room (2 * args′ .n + 1) (args′ .ns) (w₁ (args′ .n) (args′ .words .now) (lower′ .last .1 .1 .1 .1 .1 .1 .1 .0)) (omega (arith, pre′ .1, fewer (pre′ .0), long)))
+    (rising (pre′ .0), room (6 * args′ .n + 1) (args′ .ns) (w₁ (args′ .n) (args′ .words .now) (lower′ .last .1 .1 .1 .1 .1 .1 .1 .0)) (omega (arith, pre′ .1, fewer (pre′ .0), long)))
 
 mul-pb : tie.Need-mul-pb
 mul-pb c =
@@ -118,7 +118,7 @@ copy-part-requires c κs =
     let pre′ = c .before .before .before .before .before .before .before .before .before .before .before .before .before .before .before .before .before .before .before .before .before .before .before .before .before .before .pre in
     let offsets′ = c .before .before .before .before .offsets in
     let long = long₂ (args′ .n) (args′ .words .now) (lower′ .last .1 .1 .1 .1 .1 .1 .1 .0) (omega (arith, pre′ .1)) (lower′ .kept .1 .1 .1 .1 .1 .1 .1 .0) (offsets′ .last .1 .1 .1 .0) (offsets′ .kept .1 .1 .1 .0) in
-    (room (args′ .n) (args′ .ns) (args′ .tasks .now) (tasks-long (pre′ .0)), room (3 * args′ .n + 1) (args′ .ns) (w₂ (args′ .n) (args′ .words .now) (lower′ .last .1 .1 .1 .1 .1 .1 .1 .0) (offsets′ .last .1 .1 .1 .0)) (omega (arith, pre′ .1, fewer (pre′ .0), long)))
+    (room (args′ .n) (args′ .ns) (args′ .tasks .now) (tasks-long (pre′ .0)), room (7 * args′ .n + 1) (args′ .ns) (w₂ (args′ .n) (args′ .words .now) (lower′ .last .1 .1 .1 .1 .1 .1 .1 .0) (offsets′ .last .1 .1 .1 .0)) (omega (arith, pre′ .1, fewer (pre′ .0), long)))
 
 add-fill-part : tie.Need-add-fill-part
 add-fill-part c =
@@ -160,8 +160,10 @@ returns c =
     let lower′ = c .before .before .before .before .before .before .before .before .before .before .before .before .before .before .before .before .before .before .before .lower in
     let copy-part′ = c .before .before .before .before .before .before .copy-part in
     let fill-part′ = c .before .before .fill-part in
-    let e2 = offsets′ .ensures .1 (shapeFor (matrix (args′ .n) (args′ .input-starts .now) (args′ .input-rows .now) (args′ .input-values .now))) (of-shape (pre′ .0)) in
-    laid (pre′ .0) (args′ .words .now) (lower′ .last .1 .1 .1 .1 .1 .1 .1 .0) (offsets′ .last .1 .1 .1 .0) (copy-part′ .last .1 .1 .0) (fill-part′ .last .1 .1 .0) (omega (arith, pre′ .1)) (lower′ .kept .1 .1 .1 .1 .1 .1 .1 .0) e2 (copy-part′ .ensures) (fill-part′ .ensures) _ (rw (take-at (lower′ .last .1 .1 .1 .1 .1 .1 .1 .1 .0) (drop (length (args′ .input-rows .now)) (args′ .floats .now)) (length (args′ .input-rows .now)) (lower′ .kept .1 .1 .1 .1 .1 .1 .1 .1 .0 ∙ length-take-le _ _ (omega (arith, pre′ .1)))) (lower′ .ensures))
+    let e2 = offsets′ .ensures .1 (shapeFor (matrix (args′ .n) (args′ .input-starts .now) (args′ .input-rows .now) (args′ .input-values .now))) (of-shape (pre′ .0)) in (
+      laid (pre′ .0) (args′ .words .now) (lower′ .last .1 .1 .1 .1 .1 .1 .1 .0) (offsets′ .last .1 .1 .1 .0) (copy-part′ .last .1 .1 .0) (fill-part′ .last .1 .1 .0) (omega (arith, pre′ .1)) (lower′ .kept .1 .1 .1 .1 .1 .1 .1 .0) e2 (copy-part′ .ensures) (fill-part′ .ensures) _ (rw (take-at (lower′ .last .1 .1 .1 .1 .1 .1 .1 .1 .0) (drop (length (args′ .input-rows .now)) (args′ .floats .now)) (length (args′ .input-rows .now)) (lower′ .kept .1 .1 .1 .1 .1 .1 .1 .1 .0 ∙ length-take-le _ _ (omega (arith, pre′ .1)))) (lower′ .ensures)),
+      kept (pre′ .0) (args′ .words .now) (lower′ .last .1 .1 .1 .1 .1 .1 .1 .0) (offsets′ .last .1 .1 .1 .0) (copy-part′ .last .1 .1 .0) (fill-part′ .last .1 .1 .0) (omega (arith, pre′ .1)) (lower′ .kept .1 .1 .1 .1 .1 .1 .1 .0) e2 (copy-part′ .ensures) (fill-part′ .ensures),
+    )
 
 pub ready-spec : {M : Type 1} → statement M
 ready-spec =

@@ -15,8 +15,8 @@ use Rattle.step.proofs.assemble.Tie as tie
 
 mul-from-a : tie.Need-mul-from-a
 mul-from-a c =
-    let args′ = c .before .before .before .before .before .before .before .before .before .args in
-    let pre′ = c .before .before .before .before .before .before .before .before .before .pre in
+    let args′ = c .before .before .before .before .before .before .before .before .before .before .args in
+    let pre′ = c .before .before .before .before .before .before .before .before .before .before .pre in
     let S = laid (args′ .n) (args′ .first .now) (args′ .starts .now) (args′ .rows .now) in
     let J = args′ .j in
     let o = pre′ .1 .1 .1 .1 .0 in
@@ -25,8 +25,8 @@ mul-from-a c =
 
 sub-from-a : tie.Need-sub-from-a
 sub-from-a c =
-    let args′ = c .before .before .before .before .before .before .before .before .before .args in
-    let pre′ = c .before .before .before .before .before .before .before .before .before .pre in
+    let args′ = c .before .before .before .before .before .before .before .before .before .before .args in
+    let pre′ = c .before .before .before .before .before .before .before .before .before .before .pre in
     let S = laid (args′ .n) (args′ .first .now) (args′ .starts .now) (args′ .rows .now) in
     let J = args′ .j in
     let o = pre′ .1 .1 .1 .1 .0 in
@@ -35,8 +35,8 @@ sub-from-a c =
 
 part-from-a-start : tie.Need-part-from-a-start
 part-from-a-start c =
-    let args′ = c .before .before .before .before .before .before .before .before .before .args in
-    let pre′ = c .before .before .before .before .before .before .before .before .before .pre in
+    let args′ = c .before .before .before .before .before .before .before .before .before .before .args in
+    let pre′ = c .before .before .before .before .before .before .before .before .before .before .pre in
     let S = laid (args′ .n) (args′ .first .now) (args′ .starts .now) (args′ .rows .now) in
     let J = args′ .j in
     let o = pre′ .1 .1 .1 .1 .0 in
@@ -51,13 +51,13 @@ slice-reshare-prefix-from-a c = search needs
 
 slice-aggregate-from-a : tie.Need-slice-aggregate-from-a
 slice-aggregate-from-a c =
-    let pre′ = c .before .before .before .before .before .before .before .before .before .before .before .pre in
+    let pre′ = c .before .before .before .before .before .before .before .before .before .before .before .before .pre in
     sym (length-take-le _ _ (pre′ .1 .1 .1 .1 .2))
 
 from-a-requires : tie.Need-from-a-requires
 from-a-requires c κs =
-    let args′ = c .before .before .before .before .before .before .before .before .before .before .before .args in
-    let pre′ = c .before .before .before .before .before .before .before .before .before .before .before .pre in
+    let args′ = c .before .before .before .before .before .before .before .before .before .before .before .before .args in
+    let pre′ = c .before .before .before .before .before .before .before .before .before .before .before .before .pre in
     let S = laid (args′ .n) (args′ .first .now) (args′ .starts .now) (args′ .rows .now) in
     let J = args′ .j in
     let o = pre′ .1 .1 .1 .1 .0 in
@@ -65,9 +65,9 @@ from-a-requires c κs =
 
 mul-updates : tie.Need-mul-updates
 mul-updates c =
-    let pre′ = c .before .before .before .before .before .before .before .before .before .before .before .before .before .before .before .pre in
-    let good′ = c .before .before .before .before .before .before .before .before .before .before .before .before .before .before .before .good in
-    omega (arith, pre′ .1 .1 .1 .1 .2, good′ .1 .1 .1 .1 .1 .1 .1 .1 .1 .1 .1 .1 .1 .1 .1 .1 .1 .0 .1)
+    let pre′ = c .before .before .before .before .before .before .before .before .before .before .before .before .before .before .before .before .pre in
+    let good′ = c .before .before .before .before .before .before .before .before .before .before .before .before .before .before .before .before .good in
+    omega (arith, pre′ .1 .1 .1 .1 .2, good′ .1 .1 .1 .1 .1 .1 .1 .1 .1 .1 .1 .1 .1 .1 .1 .1 .0 .1)
 
 sub-updates : tie.Need-sub-updates
 sub-updates c = search needs
@@ -80,8 +80,8 @@ part-updates-end c = search needs
 
 updates-requires : tie.Need-updates-requires
 updates-requires c κs =
-    let args′ = c .before .before .before .before .before .before .before .before .before .before .before .before .before .before .before .before .args in
-    let pre′ = c .before .before .before .before .before .before .before .before .before .before .before .before .before .before .before .before .pre in
+    let args′ = c .before .before .before .before .before .before .before .before .before .before .before .before .before .before .before .before .before .args in
+    let pre′ = c .before .before .before .before .before .before .before .before .before .before .before .before .before .before .before .before .before .pre in
     let from-a′ = c .before .before .before .before .from-a in
     let S = laid (args′ .n) (args′ .first .now) (args′ .starts .now) (args′ .rows .now) in
     let J = args′ .j in
@@ -97,15 +97,15 @@ same-length-2 c = search needs
 
 returns : tie.Need-returns
 returns c =
-    let args′ = c .before .before .before .before .before .before .before .before .before .before .before .before .before .before .before .before .before .before .before .before .before .args in
-    let pre′ = c .before .before .before .before .before .before .before .before .before .before .before .before .before .before .before .before .before .before .before .before .before .pre in
+    let args′ = c .before .before .before .before .before .before .before .before .before .before .before .before .before .before .before .before .before .before .before .before .before .before .args in
+    let pre′ = c .before .before .before .before .before .before .before .before .before .before .before .before .before .before .before .before .before .before .before .before .before .before .pre in
     let from-a′ = c .before .before .before .before .before .before .before .before .before .from-a in
     let updates′ = c .before .before .before .before .updates in
     let S = laid (args′ .n) (args′ .first .now) (args′ .starts .now) (args′ .rows .now) in
     let J = args′ .j in
     let o = pre′ .1 .1 .1 .1 .0 in (
       asm.assembled S (pre′ .0) J (le-refl _) (args′ .astarts .now) (args′ .arows .now) _ (args′ .values .now) (from-a′ .last .0) _ (args′ .off) (o .offIs) (o .values) (from-a′ .ensures) (updates′ .ensures),
-      part.back-take nan (args′ .floats .now) (args′ .a) (pre′ .1 .1 .1 .1 .2) (updates′ .last .1 .1 .1 .1 .1 .1 .1 .1 .1 .1 .1 .1 .1 .1 .0),
+      part.back-take nan (args′ .floats .now) (args′ .a) (pre′ .1 .1 .1 .1 .2) (updates′ .last .1 .1 .1 .1 .1 .1 .1 .1 .1 .1 .1 .1 .1 .0),
     )
 
 pub assemble-spec : {M : Type 1} → statement M

@@ -33,8 +33,8 @@ shared-slice-read-w c = search needs
 
 sub-w : tie.Need-sub-w
 sub-w c =
-    let args′ = c .before .before .before .before .before .before .before .before .before .before .before .args in
-    let pre′ = c .before .before .before .before .before .before .before .before .before .before .before .pre in
+    let args′ = c .before .before .before .before .before .before .before .before .before .before .before .before .args in
+    let pre′ = c .before .before .before .before .before .before .before .before .before .before .before .before .pre in
     let S = laid (args′ .n) (args′ .first .now) (args′ .starts .now) (args′ .rows .now) in
     let J = args′ .j in
     let b = pre′ .shape in
@@ -58,8 +58,8 @@ shared-slice-read-m-2 c = search needs
 
 sub-m : tie.Need-sub-m
 sub-m c =
-    let args′ = c .before .before .before .before .before .before .before .before .before .before .before .before .before .args in
-    let pre′ = c .before .before .before .before .before .before .before .before .before .before .before .before .before .pre in
+    let args′ = c .before .before .before .before .before .before .before .before .before .before .before .before .before .before .args in
+    let pre′ = c .before .before .before .before .before .before .before .before .before .before .before .before .before .before .pre in
     let S = laid (args′ .n) (args′ .first .now) (args′ .starts .now) (args′ .rows .now) in
     let J = args′ .j in
     let b = pre′ .shape in
@@ -74,8 +74,8 @@ shared-slice-read-off c = search needs
 
 assemble-requires : tie.Need-assemble-requires
 assemble-requires c κs =
-    let args′ = c .before .before .before .before .before .before .before .before .before .before .before .before .before .before .before .before .args in
-    let pre′ = c .before .before .before .before .before .before .before .before .before .before .before .before .before .before .before .before .pre in
+    let args′ = c .before .before .before .before .before .before .before .before .before .before .before .before .before .before .before .before .before .args in
+    let pre′ = c .before .before .before .before .before .before .before .before .before .before .before .before .before .before .before .before .before .pre in
     let S = laid (args′ .n) (args′ .first .now) (args′ .starts .now) (args′ .rows .now) in
     let J = args′ .j in
     let b = pre′ .shape in
@@ -84,7 +84,7 @@ assemble-requires c κs =
     let at = pre′ .offsets .at J (omega arith) in (
       b,
       (
-        pre′ .updates,
+        (pre′ .updates, pre′ .words),
         (
           pre′ .offsets,
           (
@@ -109,19 +109,19 @@ assemble-requires c κs =
 
 mul-dense : tie.Need-mul-dense
 mul-dense c =
-    let args′ = c .before .before .before .before .before .before .before .before .before .before .before .before .before .before .before .before .before .before .before .before .before .args in
-    let pre′ = c .before .before .before .before .before .before .before .before .before .before .before .before .before .before .before .before .before .before .before .before .before .pre in
-    let good′ = c .before .before .before .before .before .before .before .before .before .before .before .before .before .before .before .before .before .before .before .before .before .good in
+    let args′ = c .before .before .before .before .before .before .before .before .before .before .before .before .before .before .before .before .before .before .before .before .before .before .args in
+    let pre′ = c .before .before .before .before .before .before .before .before .before .before .before .before .before .before .before .before .before .before .before .before .before .before .pre in
+    let good′ = c .before .before .before .before .before .before .before .before .before .before .before .before .before .before .before .before .before .before .before .before .before .before .good in
     let S = laid (args′ .n) (args′ .first .now) (args′ .starts .now) (args′ .rows .now) in
     let J = args′ .j in
     let off = getD (args′ .offs .now) J 0 in
     let at = pre′ .offsets .at J (omega arith) in
-    omega (arith, gather.off-le S J off (length (args′ .values .now)) at (pre′ .values), good′ .1 .1 .1 .1 .1 .1 .1 .1 .1 .1 .1 .1 .0 .1)
+    omega (arith, gather.off-le S J off (length (args′ .values .now)) at (pre′ .values), good′ .1 .1 .1 .1 .1 .1 .1 .1 .1 .1 .1 .0 .1)
 
 sub-dense : tie.Need-sub-dense
 sub-dense c =
-    let args′ = c .before .before .before .before .before .before .before .before .before .before .before .before .before .before .before .before .before .before .before .before .before .args in
-    let pre′ = c .before .before .before .before .before .before .before .before .before .before .before .before .before .before .before .before .before .before .before .before .before .pre in
+    let args′ = c .before .before .before .before .before .before .before .before .before .before .before .before .before .before .before .before .before .before .before .before .before .before .args in
+    let pre′ = c .before .before .before .before .before .before .before .before .before .before .before .before .before .before .before .before .before .before .before .before .before .before .pre in
     let assemble′ = c .before .before .before .before .assemble in
     let S = laid (args′ .n) (args′ .first .now) (args′ .starts .now) (args′ .rows .now) in
     let J = args′ .j in
@@ -134,8 +134,8 @@ sub-dense c =
 
 part-dense-start : tie.Need-part-dense-start
 part-dense-start c =
-    let args′ = c .before .before .before .before .before .before .before .before .before .before .before .before .before .before .before .before .before .before .before .before .before .args in
-    let pre′ = c .before .before .before .before .before .before .before .before .before .before .before .before .before .before .before .before .before .before .before .before .before .pre in
+    let args′ = c .before .before .before .before .before .before .before .before .before .before .before .before .before .before .before .before .before .before .before .before .before .before .args in
+    let pre′ = c .before .before .before .before .before .before .before .before .before .before .before .before .before .before .before .before .before .before .before .before .before .before .pre in
     let assemble′ = c .before .before .before .before .assemble in
     let S = laid (args′ .n) (args′ .first .now) (args′ .starts .now) (args′ .rows .now) in
     let J = args′ .j in
@@ -151,8 +151,8 @@ part-dense-end c = search needs
 
 dense-requires : tie.Need-dense-requires
 dense-requires c κs =
-    let args′ = c .before .before .before .before .before .before .before .before .before .before .before .before .before .before .before .before .before .before .before .before .before .before .before .args in
-    let pre′ = c .before .before .before .before .before .before .before .before .before .before .before .before .before .before .before .before .before .before .before .before .before .before .before .pre in
+    let args′ = c .before .before .before .before .before .before .before .before .before .before .before .before .before .before .before .before .before .before .before .before .before .before .before .before .args in
+    let pre′ = c .before .before .before .before .before .before .before .before .before .before .before .before .before .before .before .before .before .before .before .before .before .before .before .before .pre in
     let assemble′ = c .before .before .before .before .before .before .assemble in
     let S = laid (args′ .n) (args′ .first .now) (args′ .starts .now) (args′ .rows .now) in
     let J = args′ .j in
@@ -165,25 +165,25 @@ dense-requires c κs =
     let v1 = assemble′ .last .0 in
     let room1 : offset S (suc J) ≤ length v1 = omega (arith, assemble′ .ensures .0 .size, pre′ .values) in
     let in1 = gather.off-le S J off (length v1) at room1 in
-    let fkept = assemble′ .kept .1 .1 .1 .1 .1 .1 .1 .1 .1 .1 .1 .1 .1 .1 .1 .1 .1 .0 in
+    let fkept = assemble′ .kept .1 .1 .1 .1 .1 .1 .1 .1 .1 .1 .1 .1 .1 .1 .1 .1 .0 in
     let z = gather.sides S b J h _ _ m w in
     ((z .0, z .1, gather.stretch-in S b J h _ _ m w off (length v1) _ at room1 (part.mid-length nan v1 off), omega (arith, z .2, pre′ .work, fkept), gather.cols-in S b J h _ _ m w), rw (assemble′ .ensures .1) (pre′ .lower))
 
 mul-clear : tie.Need-mul-clear
 mul-clear c =
-    let args′ = c .before .before .before .before .before .before .before .before .before .before .before .before .before .before .before .before .before .before .before .before .before .before .before .before .before .before .before .before .before .args in
-    let pre′ = c .before .before .before .before .before .before .before .before .before .before .before .before .before .before .before .before .before .before .before .before .before .before .before .before .before .before .before .before .before .pre in
-    let good′ = c .before .before .before .before .before .before .before .before .before .before .before .before .before .before .before .before .before .before .before .before .before .before .before .before .before .before .before .before .before .good in
+    let args′ = c .before .before .before .before .before .before .before .before .before .before .before .before .before .before .before .before .before .before .before .before .before .before .before .before .before .before .before .before .before .before .args in
+    let pre′ = c .before .before .before .before .before .before .before .before .before .before .before .before .before .before .before .before .before .before .before .before .before .before .before .before .before .before .before .before .before .before .pre in
+    let good′ = c .before .before .before .before .before .before .before .before .before .before .before .before .before .before .before .before .before .before .before .before .before .before .before .before .before .before .before .before .before .before .good in
     let S = laid (args′ .n) (args′ .first .now) (args′ .starts .now) (args′ .rows .now) in
     let J = args′ .j in
     let off = getD (args′ .offs .now) J 0 in
     let at = pre′ .offsets .at J (omega arith) in
-    omega (arith, gather.off-le S J off (length (args′ .values .now)) at (pre′ .values), good′ .1 .1 .1 .1 .1 .1 .1 .1 .1 .1 .1 .1 .0 .1)
+    omega (arith, gather.off-le S J off (length (args′ .values .now)) at (pre′ .values), good′ .1 .1 .1 .1 .1 .1 .1 .1 .1 .1 .1 .0 .1)
 
 sub-clear : tie.Need-sub-clear
 sub-clear c =
-    let args′ = c .before .before .before .before .before .before .before .before .before .before .before .before .before .before .before .before .before .before .before .before .before .before .before .before .before .before .before .before .before .args in
-    let pre′ = c .before .before .before .before .before .before .before .before .before .before .before .before .before .before .before .before .before .before .before .before .before .before .before .before .before .before .before .before .before .pre in
+    let args′ = c .before .before .before .before .before .before .before .before .before .before .before .before .before .before .before .before .before .before .before .before .before .before .before .before .before .before .before .before .before .before .args in
+    let pre′ = c .before .before .before .before .before .before .before .before .before .before .before .before .before .before .before .before .before .before .before .before .before .before .before .before .before .before .before .before .before .before .pre in
     let assemble′ = c .before .before .before .before .before .before .before .before .before .before .before .before .assemble in
     let dense′ = c .before .before .before .before .before .dense in
     let S = laid (args′ .n) (args′ .first .now) (args′ .starts .now) (args′ .rows .now) in
@@ -202,8 +202,8 @@ sub-clear c =
 
 part-clear-start : tie.Need-part-clear-start
 part-clear-start c =
-    let args′ = c .before .before .before .before .before .before .before .before .before .before .before .before .before .before .before .before .before .before .before .before .before .before .before .before .before .before .before .before .before .args in
-    let pre′ = c .before .before .before .before .before .before .before .before .before .before .before .before .before .before .before .before .before .before .before .before .before .before .before .before .before .before .before .before .before .pre in
+    let args′ = c .before .before .before .before .before .before .before .before .before .before .before .before .before .before .before .before .before .before .before .before .before .before .before .before .before .before .before .before .before .before .args in
+    let pre′ = c .before .before .before .before .before .before .before .before .before .before .before .before .before .before .before .before .before .before .before .before .before .before .before .before .before .before .before .before .before .before .pre in
     let assemble′ = c .before .before .before .before .before .before .before .before .before .before .before .before .assemble in
     let dense′ = c .before .before .before .before .before .dense in
     let S = laid (args′ .n) (args′ .first .now) (args′ .starts .now) (args′ .rows .now) in
@@ -225,8 +225,8 @@ part-clear-end c = search needs
 
 column-start-requires : tie.Need-column-start-requires
 column-start-requires c κs =
-    let args′ = c .before .before .before .before .before .before .before .before .before .before .before .before .before .before .before .before .before .before .before .before .before .before .before .before .before .before .before .before .before .before .args in
-    let pre′ = c .before .before .before .before .before .before .before .before .before .before .before .before .before .before .before .before .before .before .before .before .before .before .before .before .before .before .before .before .before .before .pre in
+    let args′ = c .before .before .before .before .before .before .before .before .before .before .before .before .before .before .before .before .before .before .before .before .before .before .before .before .before .before .before .before .before .before .before .args in
+    let pre′ = c .before .before .before .before .before .before .before .before .before .before .before .before .before .before .before .before .before .before .before .before .before .before .before .before .before .before .before .before .before .before .before .pre in
     let S = laid (args′ .n) (args′ .first .now) (args′ .starts .now) (args′ .rows .now) in
     let J = args′ .j in
     let b = pre′ .shape in
@@ -238,8 +238,8 @@ column-start-requires c κs =
 
 clear-requires : tie.Need-clear-requires
 clear-requires c κs =
-    let args′ = c .before .before .before .before .before .before .before .before .before .before .before .before .before .before .before .before .before .before .before .before .before .before .before .before .before .before .before .before .before .before .before .args in
-    let pre′ = c .before .before .before .before .before .before .before .before .before .before .before .before .before .before .before .before .before .before .before .before .before .before .before .before .before .before .before .before .before .before .before .pre in
+    let args′ = c .before .before .before .before .before .before .before .before .before .before .before .before .before .before .before .before .before .before .before .before .before .before .before .before .before .before .before .before .before .before .before .before .args in
+    let pre′ = c .before .before .before .before .before .before .before .before .before .before .before .before .before .before .before .before .before .before .before .before .before .before .before .before .before .before .before .before .before .before .before .before .pre in
     let assemble′ = c .before .before .before .before .before .before .before .before .before .before .before .before .before .before .assemble in
     let dense′ = c .before .before .before .before .before .before .before .dense in
     let column-start′ = c .column-start in
@@ -261,10 +261,10 @@ clear-requires c κs =
     let in2 = gather.off-le S J off (length v2) at room2 in
     omega (arith, column-start′ .ensures, gather.stretch-in S b J h _ _ m w off (length v2) (length (part.mid nan v2 off)) at room2 (part.mid-length nan v2 off))
 
-add-t43 : tie.Need-add-t43
-add-t43 c =
-    let args′ = c .before .before .before .before .before .before .before .before .before .before .before .before .before .before .before .before .before .before .before .before .before .before .before .before .before .before .before .before .before .before .before .before .before .before .args in
-    let pre′ = c .before .before .before .before .before .before .before .before .before .before .before .before .before .before .before .before .before .before .before .before .before .before .before .before .before .before .before .before .before .before .before .before .before .before .pre in
+add-t42 : tie.Need-add-t42
+add-t42 c =
+    let args′ = c .before .before .before .before .before .before .before .before .before .before .before .before .before .before .before .before .before .before .before .before .before .before .before .before .before .before .before .before .before .before .before .before .before .before .before .args in
+    let pre′ = c .before .before .before .before .before .before .before .before .before .before .before .before .before .before .before .before .before .before .before .before .before .before .before .before .before .before .before .before .before .before .before .before .before .before .before .pre in
     let if1′ = c .before .before .before .before .before .if1 in
     let S = laid (args′ .n) (args′ .first .now) (args′ .starts .now) (args′ .rows .now) in
     let J = args′ .j in
@@ -276,8 +276,8 @@ add-t43 c =
 
 same-length : tie.Need-same-length
 same-length c =
-    let args′ = c .before .before .before .before .before .before .before .before .before .before .before .before .before .before .before .before .before .before .before .before .before .before .before .before .before .before .before .before .before .before .before .before .before .before .args in
-    let pre′ = c .before .before .before .before .before .before .before .before .before .before .before .before .before .before .before .before .before .before .before .before .before .before .before .before .before .before .before .before .before .before .before .before .before .before .pre in
+    let args′ = c .before .before .before .before .before .before .before .before .before .before .before .before .before .before .before .before .before .before .before .before .before .before .before .before .before .before .before .before .before .before .before .before .before .before .before .args in
+    let pre′ = c .before .before .before .before .before .before .before .before .before .before .before .before .before .before .before .before .before .before .before .before .before .before .before .before .before .before .before .before .before .before .before .before .before .before .before .pre in
     let assemble′ = c .before .before .before .before .before .before .before .before .before .before .before .before .before .before .before .before .before .assemble in
     let dense′ = c .before .before .before .before .before .before .before .before .before .before .dense in
     let clear′ = c .before .before .clear in
@@ -299,12 +299,12 @@ same-length-2 : tie.Need-same-length-2
 same-length-2 c =
     let dense′ = c .before .before .before .before .before .before .before .before .before .before .dense in
     let assemble′ = c .before .before .before .before .before .before .before .before .before .before .before .before .before .before .before .before .before .assemble in
-    dense′ .kept .1 .0 ∙ assemble′ .kept .1 .1 .1 .1 .1 .1 .1 .1 .1 .1 .1 .1 .1 .1 .1 .1 .1 .0
+    dense′ .kept .1 .0 ∙ assemble′ .kept .1 .1 .1 .1 .1 .1 .1 .1 .1 .1 .1 .1 .1 .1 .1 .1 .0
 
 returns : tie.Need-returns
 returns c =
-    let args′ = c .before .before .before .before .before .before .before .before .before .before .before .before .before .before .before .before .before .before .before .before .before .before .before .before .before .before .before .before .before .before .before .before .before .before .args in
-    let pre′ = c .before .before .before .before .before .before .before .before .before .before .before .before .before .before .before .before .before .before .before .before .before .before .before .before .before .before .before .before .before .before .before .before .before .before .pre in
+    let args′ = c .before .before .before .before .before .before .before .before .before .before .before .before .before .before .before .before .before .before .before .before .before .before .before .before .before .before .before .before .before .before .before .before .before .before .before .args in
+    let pre′ = c .before .before .before .before .before .before .before .before .before .before .before .before .before .before .before .before .before .before .before .before .before .before .before .before .before .before .before .before .before .before .before .before .before .before .before .pre in
     let assemble′ = c .before .before .before .before .before .before .before .before .before .before .before .before .before .before .before .before .before .assemble in
     let dense′ = c .before .before .before .before .before .before .before .before .before .before .dense in
     let clear′ = c .before .before .clear in
@@ -341,8 +341,8 @@ same-length-4 c = search needs
 
 returns-2 : tie.Need-returns-2
 returns-2 c =
-    let args′ = c .before .before .before .before .before .before .before .before .before .before .before .before .before .before .before .before .before .before .before .before .before .before .before .before .before .before .before .before .before .args in
-    let pre′ = c .before .before .before .before .before .before .before .before .before .before .before .before .before .before .before .before .before .before .before .before .before .before .before .before .before .before .before .before .before .pre in
+    let args′ = c .before .before .before .before .before .before .before .before .before .before .before .before .before .before .before .before .before .before .before .before .before .before .before .before .before .before .before .before .before .before .args in
+    let pre′ = c .before .before .before .before .before .before .before .before .before .before .before .before .before .before .before .before .before .before .before .before .before .before .before .before .before .before .before .before .before .before .pre in
     let assemble′ = c .before .before .before .before .before .before .before .before .before .before .before .before .assemble in
     let dense′ = c .before .before .before .before .before .dense in
     let if1′ = c .if1 in
@@ -398,7 +398,7 @@ step-spec =
     part-clear-end
     column-start-requires
     clear-requires
-    add-t43
+    add-t42
     same-length
     same-length-2
     returns

@@ -43,7 +43,7 @@ use sound.Loop.{loop-rule}
 use sound.WpLaws.{FmC, WpFn-mono, fmOf}
 use types.Kit.{ !, Given, Item, _$_, _∵_, _⊛_, anyQ, atRet, await as w-await, by as w-by, done, drop as w-drop, feqI as w-feqI, feqL as w-feqL, fjoin as w-fjoin, frame as w-frame, fsplit as w-fsplit, join as w-join, keep as w-keep, later, move as w-move, pick as w-pick, qed, raw, rewrite as w-rewrite, some, split as w-split, suffices as w-suffices, use1, use2, use3, ‵, ⋆}
 use types.Part.{agg as w-agg, look-in as w-look-in, sub as w-sub, whole as w-whole}
-use types.Run.{addr as w-addr, alloc0 as w-alloc0, alloc1 as w-alloc1, and-then as w-and-then, assigns as w-assigns, assigns-last as w-assigns-last, bin as w-bin, enter as w-enter, exec as w-exec, fld as w-fld, forget as w-forget, free0 as w-free0, free1 as w-free1, from as w-from, hop as w-hop, init as w-init, land as w-land, leaves-loop as w-leaves-loop, lit as w-lit, load as w-load, look as w-look, no-more as w-no-more, of-opd as w-of-opd, params1 as w-params1, pass0 as w-pass0, pass1 as w-pass1, returns as w-returns, stays as w-stays, stop as w-stop, store as w-store, unit-lit as w-unit-lit}
+use types.Run.{addr as w-addr, alloc0 as w-alloc0, alloc1 as w-alloc1, and-then as w-and-then, assigns as w-assigns, assigns-last as w-assigns-last, bin as w-bin, enter as w-enter, exec as w-exec, fld as w-fld, forget as w-forget, from as w-from, hop as w-hop, init as w-init, land as w-land, leaves-loop as w-leaves-loop, lit as w-lit, load as w-load, look as w-look, no-more as w-no-more, of-opd as w-of-opd, params1 as w-params1, pass0 as w-pass0, pass1 as w-pass1, returns as w-returns, stays as w-stays, stop as w-stop, store as w-store, unit-lit as w-unit-lit}
 use types.Tokens.{lft-end as w-lft-end, lft-new as w-lft-new}
 use denote.Struct.Laws as LL
 use Rattle.statement.specs.declared.Update.{Update}
@@ -57,6 +57,7 @@ use Rattle.update.proofs.put_update as f-put-update
 use Rattle.update.proofs.put_update.Symbol as def-put-update
 use Rattle.update.proofs.put_update.Symbol.{name as #update·put-update}
 use Rattle.update.proofs.put_update.Met as thm-put-update
+use Rattle.update.proofs.Packs.{Packed, pack as w-pack, unpack as w-unpack, homes-freed as w-homes-freed}
 use Rattle.update.proofs.Again.{LentAgain, lends-again, comes-back}
 use Rattle.update.proofs.clear.Key.{name as #update·clear}
 use Rattle.update.proofs.clear as here
@@ -155,9 +156,12 @@ module _ {M : Type 1} (𝓤 : URA M) (H : Heap 𝓤) (A : Atoms 𝓤) (W : Given
       abbrev En : Env 𝓤 H
       En = (ty0, l0) ∷ (ty1, l1) ∷ (ty2, l2) ∷ (ty3, l3) ∷ (ty4, l4) ∷ (ty5, l5) ∷ (ty6, l6) ∷ (ty7, l7) ∷ (ty8, l8) ∷ []
 
+      abbrev dying : List (Item 𝓤)
+      dying = ‵ (fdies ty0 l0) ∷ ‵ (fdies ty1 l1) ∷ ‵ (fdies ty2 l2) ∷ ‵ (fdies ty3 l3) ∷ ‵ (fdies ty4 l4) ∷ ‵ (fdies ty5 l5) ∷ ‵ (fdies ty6 l6) ∷ ‵ (fdies ty7 l7) ∷ ‵ (fdies ty8 l8) ∷ []
+
       -- the context where i turns are done
       abbrev At : (i : ℕ) (v-us : List Update) → List (Item 𝓤)
-      At i v-us = ‵ (MutSlice (named 0) κ-us T-Update.the-row .own (ref-us γ-us v-us) (sliceVal (b-us, o-us) (length us) ∷ [])) ∷ ‵ (flft κ-us q-us) ∷ ‵ (froom ty0 l0 0) ∷ ‵ (fat fullShare ty1 l1 0 s-us) ∷ ‵ (fat fullShare ty2 l2 0 (vint w64 n)) ∷ ‵ (fat fullShare ty3 l3 0 (vint w64 i)) ∷ ‵ (froom ty4 l4 0) ∷ ‵ (froom ty5 l5 0) ∷ ‵ (froom ty6 l6 0) ∷ ‵ (froom ty7 l7 0) ∷ ‵ (froom ty8 l8 0) ∷ ‵ (fdies ty0 l0) ∷ ‵ (fdies ty1 l1) ∷ ‵ (fdies ty2 l2) ∷ ‵ (fdies ty3 l3) ∷ ‵ (fdies ty4 l4) ∷ ‵ (fdies ty5 l5) ∷ ‵ (fdies ty6 l6) ∷ ‵ (fdies ty7 l7) ∷ ‵ (fdies ty8 l8) ∷ []
+      At i v-us = ‵ (MutSlice (named 0) κ-us T-Update.the-row .own (ref-us γ-us v-us) (sliceVal (b-us, o-us) (length us) ∷ [])) ∷ ‵ (flft κ-us q-us) ∷ ‵ (froom ty0 l0 0) ∷ ‵ (fat fullShare ty1 l1 0 s-us) ∷ ‵ (fat fullShare ty2 l2 0 (vint w64 n)) ∷ ‵ (fat fullShare ty3 l3 0 (vint w64 i)) ∷ ‵ (froom ty4 l4 0) ∷ ‵ (froom ty5 l5 0) ∷ ‵ (froom ty6 l6 0) ∷ ‵ (froom ty7 l7 0) ∷ ‵ (froom ty8 l8 0) ∷ raw (Packed 𝓤 H A dying) ∷ []
 
       -- the invariant, where t turns are left
       abbrev Inv : ℕ → SProp 𝓤
@@ -203,7 +207,7 @@ module _ {M : Type 1} (𝓤 : URA M) (H : Heap 𝓤) (A : Atoms 𝓤) (W : Given
           w-move ! (2 ∷ []) $ w-drop ! $
           w-forget ! 8 refl $ w-forget ! 9 refl $ w-forget ! 10 refl $ w-assigns-last ! (w-bin ! (w-load ! (w-from ! (w-stop !)) (w-look ! 5 refl)) (w-lit ! tt) (record { fits = next-fits })) (w-from ! (w-stop !)) (w-store ! 5 refl (tt, record { fits = next-fits })) $
           w-forget ! 6 refl $ w-forget ! 7 refl $ w-rewrite ! 5 (λ (j : ℕ). ‵ (fat fullShare ty3 l3 0 (vint w64 j))) (add-one i) refl $
-          w-keep ! (0 ∷ 1 ∷ 2 ∷ 3 ∷ 4 ∷ 5 ∷ 6 ∷ 7 ∷ 8 ∷ 9 ∷ 10 ∷ 11 ∷ 12 ∷ 13 ∷ 14 ∷ 15 ∷ 16 ∷ 17 ∷ 18 ∷ 19 ∷ []) $ w-by ! (k (zs2 .0) (same2-us ∙ len-us) (again i v-us len-us kept small u1 r1 is1 d1 (zs2 .0) d2 same2-us)))))))))))))))
+          w-keep ! (0 ∷ 1 ∷ 2 ∷ 3 ∷ 4 ∷ 5 ∷ 6 ∷ 7 ∷ 8 ∷ 9 ∷ 10 ∷ 11 ∷ []) $ w-by ! (k (zs2 .0) (same2-us ∙ len-us) (again i v-us len-us kept small u1 r1 is1 d1 (zs2 .0) d2 same2-us)))))))))))))))
 
       left : (v-us : List Update) (len-us : length v-us ≡ length us) (kept : Front (λ _. noUpdate) n us v-us n) (X : SProp 𝓤) → ent 𝓤 (⋆ 𝓤 H A (At n v-us)) (Wp 𝓤 H C Λ En body.turn-1 (afterTurn 𝓤 H X Left))
       unfolding afterTurn
@@ -214,7 +218,8 @@ module _ {M : Type 1} (𝓤 : URA M) (H : Heap 𝓤) (A : Atoms 𝓤) (W : Given
           w-leaves-loop ! (w-load ! (w-from ! (w-stop !)) (w-look ! 7 refl)) $ w-exec ! C Λ En body.t-3 (atRet En Post) $
           w-assigns ! (w-of-opd ! (w-unit-lit !)) (w-from ! (w-stop !)) (w-init ! 2 refl (tt, tt)) $
           w-returns ! (w-look ! 2 refl) $ w-forget ! 2 refl $ w-forget ! 3 refl $ w-forget ! 4 refl $ w-forget ! 5 refl $ w-forget ! 7 refl $
-          w-move ! (2 ∷ 11 ∷ []) $ w-free1 ! $ w-move ! (2 ∷ 10 ∷ []) $ w-free1 ! $ w-move ! (2 ∷ 9 ∷ []) $ w-free1 ! $ w-move ! (2 ∷ 8 ∷ []) $ w-free1 ! $ w-move ! (2 ∷ 7 ∷ []) $ w-free1 ! $ w-move ! (2 ∷ 6 ∷ []) $ w-free1 ! $ w-move ! (2 ∷ 5 ∷ []) $ w-free1 ! $ w-move ! (2 ∷ 4 ∷ []) $ w-free1 ! $ w-move ! (2 ∷ 3 ∷ []) $ w-free1 ! $ w-free0 ! $
+          w-move ! (11 ∷ []) $ w-unpack ! (‵ (fdies ty0 l0) ∷ ‵ (fdies ty1 l1) ∷ ‵ (fdies ty2 l2) ∷ ‵ (fdies ty3 l3) ∷ ‵ (fdies ty4 l4) ∷ ‵ (fdies ty5 l5) ∷ ‵ (fdies ty6 l6) ∷ ‵ (fdies ty7 l7) ∷ ‵ (fdies ty8 l8) ∷ []) $
+          w-move ! (11 ∷ 0 ∷ 12 ∷ 1 ∷ 13 ∷ 2 ∷ 14 ∷ 3 ∷ 15 ∷ 4 ∷ 16 ∷ 5 ∷ 17 ∷ 6 ∷ 18 ∷ 7 ∷ 19 ∷ 8 ∷ []) $ w-homes-freed ! En $
           w-keep ! (1 ∷ 0 ∷ []) $ w-by ! (exits v-us len-us kept)
 
       ends : (i : ℕ) (v-us : List Update) → i ≡ n → length v-us ≡ length us → Front (λ _. noUpdate) n us v-us i → (X : SProp 𝓤) → ent 𝓤 (⋆ 𝓤 H A (At i v-us)) (Wp 𝓤 H C Λ En body.turn-1 (afterTurn 𝓤 H X Left))
@@ -247,7 +252,8 @@ module _ {M : Type 1} (𝓤 : URA M) (H : Heap 𝓤) (A : Atoms 𝓤) (W : Given
         w-move ! (19 ∷ []) $ w-fsplit ! $ w-move ! (1 ∷ []) $ w-fsplit ! $ w-drop ! $ w-drop ! $
         w-move ! (19 ∷ []) $ w-split ! $ w-move ! (1 ∷ []) $ w-drop ! $
         w-assigns ! (w-of-opd ! (w-lit ! tt)) (w-from ! (w-stop !)) (w-init ! 12 refl (tt, record { fits = lit< tt })) $
-        w-keep ! (1 ∷ 0 ∷ 18 ∷ 16 ∷ 14 ∷ 12 ∷ 10 ∷ 8 ∷ 6 ∷ 4 ∷ 2 ∷ 19 ∷ 17 ∷ 15 ∷ 13 ∷ 11 ∷ 9 ∷ 7 ∷ 5 ∷ 3 ∷ []) $ w-by ! (loops l0 l1 l2 l3 l4 l5 l6 l7 l8))))))))))
+        w-move ! (19 ∷ 17 ∷ 15 ∷ 13 ∷ 11 ∷ 9 ∷ 7 ∷ 5 ∷ 3 ∷ []) $ w-pack ! (‵ (fdies ty0 l0) ∷ ‵ (fdies ty1 l1) ∷ ‵ (fdies ty2 l2) ∷ ‵ (fdies ty3 l3) ∷ ‵ (fdies ty4 l4) ∷ ‵ (fdies ty5 l5) ∷ ‵ (fdies ty6 l6) ∷ ‵ (fdies ty7 l7) ∷ ‵ (fdies ty8 l8) ∷ []) $
+        w-keep ! (2 ∷ 1 ∷ 11 ∷ 10 ∷ 9 ∷ 8 ∷ 7 ∷ 6 ∷ 5 ∷ 4 ∷ 3 ∷ 0 ∷ []) $ w-by ! (loops l0 l1 l2 l3 l4 l5 l6 l7 l8))))))))))
 
 module _ {M : Type 1} (𝓤 : URA M) (H : Heap 𝓤) (A : Atoms 𝓤) (W : Given 𝓤 H A) (mem : Memory → SProp 𝓤) (run : Routine → Fun 𝓤) where
   here-walks : (𝓣 : Tables 𝓤 H) (known-none : Triple 𝓤 (𝓣 .C #update·none) (C-none 𝓤 H A mem run)) (known-put-update : Triple 𝓤 (𝓣 .C #update·put-update) (C-put-update 𝓤 H A mem run)) → Walks 𝓤 H A here.ended stayed (WpFn 𝓤 H (𝓣 .C) (𝓣 .Λ) code.function) (here.clauses 𝓤 H A mem run)

@@ -1,0 +1,4 @@
+pub mod Beginning
+pub mod Handing
+pub mod Naming
+pub mod Ordering
