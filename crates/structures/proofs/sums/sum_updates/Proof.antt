@@ -42,7 +42,7 @@ use prog.Wp.{Calls, Env, Heap, Loops, Out, Tables, Wp, WpFn, afterBlock, afterSe
 use sound.Loop.{loop-rule}
 use sound.WpLaws.{FmC, WpFn-mono, fmOf}
 use types.Kit.{ !, Given, Item, _$_, _∵_, _⊛_, anyQ, atRet, await as w-await, by as w-by, done, drop as w-drop, fjoin as w-fjoin, frame as w-frame, fsplit as w-fsplit, join as w-join, keep as w-keep, later, move as w-move, pick as w-pick, qed, raw, rewrite as w-rewrite, some, split as w-split, suffices as w-suffices, use1, use2, ‵, ⋆}
-use types.Run.{alloc0 as w-alloc0, alloc1 as w-alloc1, and-then as w-and-then, assigns as w-assigns, assigns-last as w-assigns-last, bin as w-bin, enter as w-enter, exec as w-exec, forget as w-forget, free0 as w-free0, free1 as w-free1, from as w-from, init as w-init, land as w-land, leaves-loop as w-leaves-loop, lit as w-lit, load as w-load, look as w-look, no-more as w-no-more, of-opd as w-of-opd, params1 as w-params1, pass0 as w-pass0, pass1 as w-pass1, returns as w-returns, stays as w-stays, stop as w-stop, store as w-store}
+use types.Run.{alloc0 as w-alloc0, alloc1 as w-alloc1, and-then as w-and-then, assigns as w-assigns, assigns-last as w-assigns-last, bin as w-bin, enter as w-enter, exec as w-exec, forget as w-forget, from as w-from, init as w-init, land as w-land, leaves-loop as w-leaves-loop, lit as w-lit, load as w-load, look as w-look, no-more as w-no-more, of-opd as w-of-opd, params1 as w-params1, pass0 as w-pass0, pass1 as w-pass1, returns as w-returns, stays as w-stays, stop as w-stop, store as w-store}
 use denote.Struct.Laws as LL
 use Rattle.statement.specs.declared.Update.{Update}
 use Rattle.statement.proofs.Update as T-Update
@@ -56,6 +56,7 @@ use Rattle.structures.proofs.sums.counted_update.Symbol as def-counted-
 use Rattle.structures.proofs.sums.counted_update.Symbol.{name as #structures·counted-update}
 use Rattle.structures.proofs.sums.counted_update.Met as thm-counted-update
 use Rattle.update.proofs.Steps.{says-nothing as w-says-nothing}
+use Rattle.update.proofs.Packs.{Packed, pack as w-pack, unpack as w-unpack, homes-freed as w-homes-freed}
 use Rattle.structures.proofs.sums.sum_updates.Key.{name as #structures·sum-updates}
 use Rattle.structures.proofs.sums.sum_updates as here
 use Rattle.structures.proofs.sums.sum_updates.Statement as stated
@@ -145,9 +146,12 @@ module _ {M : Type 1} (𝓤 : URA M) (H : Heap 𝓤) (A : Atoms 𝓤) (W : Given
       abbrev En : Env 𝓤 H
       En = (ty0, l0) ∷ (ty1, l1) ∷ (ty2, l2) ∷ (ty3, l3) ∷ (ty4, l4) ∷ (ty5, l5) ∷ (ty6, l6) ∷ []
 
+      abbrev dying : List (Item 𝓤)
+      dying = ‵ (fdies ty0 l0) ∷ ‵ (fdies ty1 l1) ∷ ‵ (fdies ty2 l2) ∷ ‵ (fdies ty3 l3) ∷ ‵ (fdies ty4 l4) ∷ ‵ (fdies ty5 l5) ∷ ‵ (fdies ty6 l6) ∷ []
+
       -- the context where i turns are done
       abbrev At : (i : ℕ) (h : ℕ) (m-h : Val) → List (Item 𝓤)
-      At i h m-h = ‵ (ShrSlice (named 0) κ-list T-Update.the-row .own (ref-list γ-list «list») (sliceVal (b-list, o-list) (length «list») ∷ [])) ∷ ‵ (flft κ-list q-list) ∷ ‵ (froom ty0 l0 0) ∷ ‵ (fat fullShare ty1 l1 0 s-list) ∷ ‵ (fat fullShare ty2 l2 0 (vint w64 m)) ∷ ‵ (fat fullShare ty3 l3 0 m-h) ∷ ‵ (fat fullShare ty4 l4 0 (vint w64 i)) ∷ ‵ (froom ty5 l5 0) ∷ ‵ (froom ty6 l6 0) ∷ ‵ (fdies ty0 l0) ∷ ‵ (fdies ty1 l1) ∷ ‵ (fdies ty2 l2) ∷ ‵ (fdies ty3 l3) ∷ ‵ (fdies ty4 l4) ∷ ‵ (fdies ty5 l5) ∷ ‵ (fdies ty6 l6) ∷ []
+      At i h m-h = ‵ (ShrSlice (named 0) κ-list T-Update.the-row .own (ref-list γ-list «list») (sliceVal (b-list, o-list) (length «list») ∷ [])) ∷ ‵ (flft κ-list q-list) ∷ ‵ (froom ty0 l0 0) ∷ ‵ (fat fullShare ty1 l1 0 s-list) ∷ ‵ (fat fullShare ty2 l2 0 (vint w64 m)) ∷ ‵ (fat fullShare ty3 l3 0 m-h) ∷ ‵ (fat fullShare ty4 l4 0 (vint w64 i)) ∷ ‵ (froom ty5 l5 0) ∷ ‵ (froom ty6 l6 0) ∷ raw (Packed 𝓤 H A dying) ∷ []
 
       -- the invariant, where t turns are left
       abbrev Inv : ℕ → SProp 𝓤
@@ -189,7 +193,7 @@ module _ {M : Type 1} (𝓤 : URA M) (H : Heap 𝓤) (A : Atoms 𝓤) (W : Given
           w-drop ! $ w-drop ! $
           w-assigns-last ! (w-bin ! (w-load ! (w-from ! (w-stop !)) (w-look ! 6 refl)) (w-lit ! tt) (record { fits = next-fits })) (w-from ! (w-stop !)) (w-store ! 6 refl (tt, record { fits = next-fits })) $
           w-forget ! 7 refl $ w-forget ! 8 refl $ w-rewrite ! 6 (λ (j : ℕ). ‵ (fat fullShare ty4 l4 0 (vint w64 j))) (add-one i) refl $
-          w-keep ! (1 ∷ 0 ∷ 2 ∷ 3 ∷ 4 ∷ 5 ∷ 6 ∷ 7 ∷ 8 ∷ 9 ∷ 10 ∷ 11 ∷ 12 ∷ 13 ∷ 14 ∷ 15 ∷ []) $ w-by ! (k u2 r2 (is2) (again i h m-h is-h kept small u1 r1 is1 d1 u2 r2 is2)))))))))))
+          w-keep ! (1 ∷ 0 ∷ 2 ∷ 3 ∷ 4 ∷ 5 ∷ 6 ∷ 7 ∷ 8 ∷ 9 ∷ []) $ w-by ! (k u2 r2 (is2) (again i h m-h is-h kept small u1 r1 is1 d1 u2 r2 is2)))))))))))
 
       left : (h : ℕ) (m-h : Val) (is-h : Is usize h (m-h ∷ [])) (kept : m ≤ m) (X : SProp 𝓤) → ent 𝓤 (⋆ 𝓤 H A (At m h m-h)) (Wp 𝓤 H C Λ En body.turn-1 (afterTurn 𝓤 H X Left))
       unfolding afterTurn
@@ -200,7 +204,8 @@ module _ {M : Type 1} (𝓤 : URA M) (H : Heap 𝓤) (A : Atoms 𝓤) (W : Given
           w-leaves-loop ! (w-load ! (w-from ! (w-stop !)) (w-look ! 8 refl)) $ w-exec ! C Λ En body.t-4 (atRet En Post) $
           w-assigns ! (w-of-opd ! (w-load ! (w-from ! (w-stop !)) (w-look ! 5 refl))) (w-from ! (w-stop !)) (w-init ! 2 refl (uint-lawful 𝓤 H A W w64 .typed h _ is-h .0)) $
           w-returns ! (w-look ! 2 refl) $ w-forget ! 2 refl $ w-forget ! 3 refl $ w-forget ! 4 refl $ w-forget ! 5 refl $ w-forget ! 6 refl $ w-forget ! 8 refl $
-          w-move ! (2 ∷ 9 ∷ []) $ w-free1 ! $ w-move ! (2 ∷ 8 ∷ []) $ w-free1 ! $ w-move ! (2 ∷ 7 ∷ []) $ w-free1 ! $ w-move ! (2 ∷ 6 ∷ []) $ w-free1 ! $ w-move ! (2 ∷ 5 ∷ []) $ w-free1 ! $ w-move ! (2 ∷ 4 ∷ []) $ w-free1 ! $ w-move ! (2 ∷ 3 ∷ []) $ w-free1 ! $ w-free0 ! $
+          w-move ! (9 ∷ []) $ w-unpack ! (‵ (fdies ty0 l0) ∷ ‵ (fdies ty1 l1) ∷ ‵ (fdies ty2 l2) ∷ ‵ (fdies ty3 l3) ∷ ‵ (fdies ty4 l4) ∷ ‵ (fdies ty5 l5) ∷ ‵ (fdies ty6 l6) ∷ []) $
+          w-move ! (9 ∷ 0 ∷ 10 ∷ 1 ∷ 11 ∷ 2 ∷ 12 ∷ 3 ∷ 13 ∷ 4 ∷ 14 ∷ 5 ∷ 15 ∷ 6 ∷ []) $ w-homes-freed ! En $
           w-keep ! (1 ∷ 0 ∷ []) $ w-by ! (exits h m-h is-h kept)
 
       ends : (i : ℕ) (h : ℕ) (m-h : Val) → i ≡ m → Is usize h (m-h ∷ []) → i ≤ m → (X : SProp 𝓤) → ent 𝓤 (⋆ 𝓤 H A (At i h m-h)) (Wp 𝓤 H C Λ En body.turn-1 (afterTurn 𝓤 H X Left))
@@ -234,7 +239,8 @@ module _ {M : Type 1} (𝓤 : URA M) (H : Heap 𝓤) (A : Atoms 𝓤) (W : Given
         w-move ! (15 ∷ []) $ w-split ! $ w-move ! (1 ∷ []) $ w-drop ! $
         w-assigns ! (w-of-opd ! (w-lit ! tt)) (w-from ! (w-stop !)) (w-init ! 8 refl (tt, record { fits = lit< tt })) $
         w-assigns ! (w-of-opd ! (w-lit ! tt)) (w-from ! (w-stop !)) (w-init ! 6 refl (tt, record { fits = lit< tt })) $
-        w-keep ! (1 ∷ 0 ∷ 14 ∷ 12 ∷ 10 ∷ 8 ∷ 6 ∷ 4 ∷ 2 ∷ 15 ∷ 13 ∷ 11 ∷ 9 ∷ 7 ∷ 5 ∷ 3 ∷ []) $ w-by ! (loops l0 l1 l2 l3 l4 l5 l6))))))))
+        w-move ! (15 ∷ 13 ∷ 11 ∷ 9 ∷ 7 ∷ 5 ∷ 3 ∷ []) $ w-pack ! (‵ (fdies ty0 l0) ∷ ‵ (fdies ty1 l1) ∷ ‵ (fdies ty2 l2) ∷ ‵ (fdies ty3 l3) ∷ ‵ (fdies ty4 l4) ∷ ‵ (fdies ty5 l5) ∷ ‵ (fdies ty6 l6) ∷ []) $
+        w-keep ! (2 ∷ 1 ∷ 9 ∷ 8 ∷ 7 ∷ 6 ∷ 5 ∷ 4 ∷ 3 ∷ 0 ∷ []) $ w-by ! (loops l0 l1 l2 l3 l4 l5 l6))))))))
 
 module _ {M : Type 1} (𝓤 : URA M) (H : Heap 𝓤) (A : Atoms 𝓤) (W : Given 𝓤 H A) (mem : Memory → SProp 𝓤) (run : Routine → Fun 𝓤) where
   here-walks : (𝓣 : Tables 𝓤 H) (known-update-at : Triple 𝓤 (𝓣 .C #update·update-at) (C-update-at 𝓤 H A mem run)) (known-counted-update : Triple 𝓤 (𝓣 .C #structures·counted-update) (C-counted-update 𝓤 H A mem run)) → Walks 𝓤 H A here.ended stayed (WpFn 𝓤 H (𝓣 .C) (𝓣 .Λ) code.function) (here.clauses 𝓤 H A mem run)
