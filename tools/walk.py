@@ -13,14 +13,16 @@ It reads the function's MIR (`rt mir CRATE`), the sources of the functions that 
     carries: a name for each word or struct that a turn changes, in the order of the locals
     begin, again: why it holds before the first turn, and after one more (`kept` and `small`, that i is below the end, are known)
     reach: start + (end - start) ≡ end, where the loop does not start at 0
-    struct NAME: where it is declared, as crate::NAME         lends: the module with Again and Shared
+    struct NAME: where it is declared, as crate::NAME         lends: the module with Again, Shared, Owned, Packs and Steps
 
 The terms may name what is known: each parameter by its name (a slice's is its list), `pre` (the function's requires), and of
 call N its result uN, its ensures dN, the list cN-P that it leaves in the slice P and sameN-P, that this is as long as before.
+Of a local array A, `[u; n]`, its list is A, made-A says that it is n times u, and size-A that it has n.
 
-What it covers: parameters that are words, plain structs and slices; calls whose arguments are words, whole structs and whole
-slices; contracts of one `requires` and one `ensures` at most; one loop `while i < to { calls; i += 1 }`. After each call the walk is
-cut into a lemma of its own. Positions in the context are counted here, never by hand.
+What it covers: parameters that are words, plain structs and enums, slices and `&mut [T; n]`; local arrays of structs; calls whose
+arguments are words, whole structs, slices and arrays; contracts of one `requires` and one `ensures` at most; one loop `while i < to {
+calls; i += 1 }`, in a function with no arrays. After each call the walk is cut into a lemma of its own. Positions in the context are
+counted here, never by hand.
 """
 import glob, os, re, subprocess, sys
 
