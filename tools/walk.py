@@ -170,6 +170,7 @@ def lit(o):
     """a constant: MIR writes one above 1023 with its bound, and one near the end of its width from there"""
     n = int(o[2])
     return '(lit ! tt)' if n < 1024 else '(neg-lit ! tt)' if n > 2 ** 63 else '(big-lit ! (record { fits = lit< tt }))'
+EVERY = 3      # after so many slices that are lent or come back the context is written out
 REFS = {'shr': 'ShrSlice', 'mut': 'MutSlice', 'arr': 'MutRef'}
 def slot(t): return f'(ArrayOf (plain (λ _. {rtype(elem(t))})) (λ _. tt) {t.split(";")[1].strip()})'
 
@@ -253,6 +254,7 @@ class Walk:
         w.hist = []          # (name, type) of what the calls so far have told
         w.bound = []
         w.loops = ''
+        w.texts = {}
         w.calls = 0
 
     def struct(w, t): STRUCTS.setdefault(short(t), None)
@@ -275,10 +277,6 @@ class Walk:
         n, k, t = p
         return f's-{w.id(n)}' if k in LENT else f'vint w64 {var(n)}' if k == 'word' else f'm-{w.id(n)}'
     def atom(w, x): return x if re.match(r'^[^\s]+$', x) else f'({x})'
-    def room(w, n):
-        r = f'room-{w.id(n)}'
-        t = next(p[2] for p in w.P if p[0] == n)
-        return r if w.len[n] is None else f'(subst (Room {rtype(t)}) (sym {w.atom(w.len[n])}) {r})'
     def item(w, x):
         a, _, k = x.partition('-')
         if a == 'own': return f'‵ ({w.own(k, w.cur[k], var(k))})'
@@ -305,6 +303,11 @@ class Walk:
     def pack(w, names, name):
         """these entries are kept as one"""
         w.line(w.c.front(*names) + f'pack ! ({" ∷ ".join(w.item(x) for x in names)} ∷ []) $ '); w.c.head(len(names), name)
+        if name == 'REST': w.texts[name] = f'raw (Packed 𝓤 H A ({" ∷ ".join(w.item(x) for x in names)} ∷ []))'
+    def shown(w, x): return w.texts.get(x) or w.item(x)
+    def write(w):
+        """the context is written out"""
+        w.line(f'written ! ({" ∷ ".join(w.shown(x) for x in w.c.c)} ∷ []) $ ')
     def unpack(w, name, names):
         w.line(w.c.front(name) + f'unpack ! ({" ∷ ".join(w.item(x) for x in names)} ∷ []) $ '); w.c.head(1, *names)
     def gamma(w): return ' ∷ '.join(w.item(x) for x in w.canon()) + ' ∷ []'
@@ -334,17 +337,14 @@ class Walk:
             p = int(rv[1][1])
             if w.points(dest, p, rv, to(how, '(tt, tt)')): return
             w.emit(f'assigns ! (addr ! (from ! (fld ! refl (hop ! (look-in ! {c.ix(f"L-{p}")} (sub ! 0 refl (whole !))) (stop !))))) ' + to(how, '(tt, tt)'))
-            w.loc[dest] = dict(kind='ref', of=w.P[p - 1][0], mach='?')
+            w.loc[dest] = dict(kind='ref', of=w.P[p - 1][0], mach=f'vptr b-{w.id(w.P[p - 1][0])} o-{w.id(w.P[p - 1][0])}')
             return
         if rv[0] == 'aggregate':
             a, b = seqlist(rv[1]); r = int(a[1][1])
             if w.loc[r]['of'] in w.owned: return w.slice(dest, r, to)
             p = int(b[1][1]); n = w.P[p - 1][0]
             w.line(f'assigns ! (agg ! (and-then ! (load ! (from ! (stop !)) (look ! {c.ix(f"L-{r}")} refl)) (and-then ! (load ! (from ! (fld ! refl (stop !))) (look-in ! {c.ix(f"L-{p}")} (sub ! 1 refl (whole !)))) (no-more !)))) ' + to(how, f'(tt, (tt, (record {{ fits = room-{w.id(n)} .0 }}, tt)))'))
-            if w.len[n] is not None:
-                i = w.id(n)
-                w.line(f'rewrite ! {c.ix(f"L-{dest}")} (λ (m : ℕ). ‵ (fat fullShare ty{dest} l{dest} 0 (sliceVal (b-{i}, o-{i}) m))) (sym {w.atom(w.len[n])}) refl $ ')
-            w.loc[dest] = dict(kind='lent', of=n, mach='?')
+            w.loc[dest] = dict(kind='lent', of=n, mach=f's-{w.id(n)}')
             return
         assert rv[0] == 'rvOpd', s
         o = rv[1]
@@ -387,24 +387,24 @@ class Walk:
             elif lent:
                 pk = next(p[1] for p in w.P if p[0] == n)
                 w.open_(f'lft-new ! tt (λ ν{k}-{j}. '); c.head(0, f'nu-{j}')
-                if w.len[n] is not None:
-                    w.emit(f'rewrite ! {c.ix(f"own-{n}")} (λ (m : ℕ). ‵ (MutSlice (named {w.lft[n]}) κ-{i} {R} .own {w.ref(n, f"γ-{i}", cur)} (sliceVal (b-{i}, o-{i}) m ∷ []))) (sym {w.atom(w.len[n])}) refl $ ')
                 w.emit(c.front(f'own-{n}', f'tok-{n}'))
                 assert pk == 'mut', (s, 'a shared slice is lent again')
                 kd = 'MutSlice' if kind == 'mut' else 'ShrSlice'
-                lo = f'‵ ({kd} (named {m}) (ν{k}-{j} ∷ []) {R} .own {w.ref(n, "δ", cur)} (sliceVal (b-{i}, o-{i}) (length {cur}) ∷ []))'
+                lo = f'‵ ({kd} (named {m}) (ν{k}-{j} ∷ []) {R} .own {w.ref(n, "δ", cur)} (s-{i} ∷ []))'
                 if kind == 'mut':
-                    kept = f'LentAgain {R} κ-{i} (ν{k}-{j} ∷ []) q-{i} γ-{i} b-{i} o-{i} δ {cur}'; law = 'lends-again'
+                    kept = f'LentAgain {R} κ-{i} (ν{k}-{j} ∷ []) q-{i} γ-{i} b-{i} o-{i} δ {cur}'; law = 'lends-at'
                 else:
-                    kept = f'LentShared {R} κ-{i} (ν{k}-{j} ∷ []) q-{i} γ-{i} b-{i} o-{i} {cur}'; law = 'lends-shared'
-                w.open_(f'use2 W (later (some (λ (δ : GName). {lo} ⊛ ‵ ({kept})))) ({law} {R} κ-{i} (ν{k}-{j} ∷ []) q-{i} γ-{i} b-{i} o-{i} 𝓤 H A W (named {w.lft[n]}) (named {m}) {cur}) $ await ! tt $ pick ! (λ δ{k}-{j}. split ! $ ')
+                    kept = f'LentShared {R} κ-{i} (ν{k}-{j} ∷ []) q-{i} γ-{i} b-{i} o-{i} {cur}'; law = 'shows-at'
+                w.open_(f'use2 W (later (some (λ (δ : GName). {lo} ⊛ ‵ ({kept})))) ({law} {R} κ-{i} (ν{k}-{j} ∷ []) q-{i} γ-{i} b-{i} o-{i} 𝓤 H A W (named {w.lft[n]}) (named {m}) {cur} (length {var(n)}) {w.atom(w.len[n] or "refl")}) $ await ! tt $ pick ! (λ δ{k}-{j}. split ! $ ')
                 w.line('')
                 c.head(2, f'arg-{j}', f'kept-{j}')
+                w.texts.update({f'nu-{j}': f'‵ (flft (ν{k}-{j} ∷ []) fullShare)', f'arg-{j}': lo.replace('-{i} δ ', 'X').replace(w.ref(n, 'δ', cur), w.ref(n, f'δ{k}-{j}', cur)), f'kept-{j}': '‵ (' + kept.replace(' δ ', f' δ{k}-{j} ') + ')'})
+                if w.packs() and len(lfts) % EVERY == EVERY - 1: w.write()
                 lfts.append((f'ν{k}-{j} ∷ []', 'fullShare', f'nu-{j}')); gi[j] = f'δ{k}-{j}'
             else:
                 w.emit(c.front(f'own-{n}'))
                 w.line(f'use1 W (‵ ({w.own(n, cur, var(n))}) ⊛ ‵ ({w.own(n, cur, var(n))})) (shr-slice-copy 𝓤 H A W (named {w.lft[n]}) κ-{i} {R} .twice {w.ref(n, f"γ-{i}", cur)} (s-{i} ∷ [])) $ split ! $ ')
-                c.head(1, f'arg-{j}', f'own-{n}')
+                c.head(1, f'arg-{j}', f'own-{n}'); w.texts[f'arg-{j}'] = w.item(f'own-{n}')
                 lfts.append((f'κ-{i}', f'q-{i}', f'tok-{n}')); gi[j] = f'γ-{i}'
         # the arguments' values
         den, mac, entry = [], [], {}
@@ -423,7 +423,7 @@ class Walk:
                 den.append(v['val']); mac.append(f'{v["mach"]} ∷ []'); entry[pn] = v['val']
             else:
                 i = w.id(n)
-                den.append(w.ref(n, gi[j], w.cur[n])[1:-1]); mac.append(f's-{i} ∷ []' if kind == 'arr' else f'sliceVal {w.spot(n)} (length {w.cur[n]}) ∷ []'); entry[pn] = w.cur[n]
+                den.append(w.ref(n, gi[j], w.cur[n])[1:-1]); mac.append(f'sliceVal {w.spot(n)} (length {w.cur[n]}) ∷ []' if n in w.owned else f's-{i} ∷ []'); entry[pn] = w.cur[n]
         w.emit('nothing ! $ '); c.head(0, 'T')
         for x in reversed(lfts):
             w.emit(c.front(x[2], 'T') + 'join ! $ '); c.head(2, 'T')
@@ -479,6 +479,9 @@ class Walk:
         w.emit(c.drop('res'))
         # the slices come back
         si = 0
+        written = w.packs() and all(x[0] != 'arr' for x in info)
+        for j, (kind, t, n, lent, l) in enumerate(info):
+            if kind == 'mut': w.texts[f'fin-{j}'] = f'‵ (finally {rtype(t)} δ{k}-{j} {exits[G.params[j][0]]})'
         newcur, newlen = dict(w.cur), dict(w.len)
         news = []
         for j, (kind, t, n, lent, l) in enumerate(info):
@@ -491,32 +494,37 @@ class Walk:
                     z = exits.get(G.params[j][0], cur); w.back(k, j, si, kind, t, n, z)
                     if kind != 'shr': news.append((n, t, f'c{k}-{i}', z, cur)); newcur[n] = f'c{k}-{i}'
                     if kind == 'mut': newlen[n] = f'same{k}-{i} ∙ {w.len[n]}'
+                    if n in w.owned: w.texts[f'L-{w.owned[n][0]}'] = f'‵ ({w.lies(n, z)})'
                     si += 1; continue
-                back = lambda z, m: f'MutSlice (named {w.lft[n]}) κ-{i} {R} .own {w.ref(n, f"γ-{i}", z)} (sliceVal (b-{i}, o-{i}) (length {m}) ∷ [])'
                 if kind == 'mut':
                     z = exits[G.params[j][0]]
                     w.emit(c.front('dead', f'kept-{j}', f'fin-{j}'))
-                    w.line(f'use3 W (later (‵ ({back(z, cur)}) ⊛ ‵ (flft κ-{i} q-{i}))) (comes-back {R} κ-{i} (ν{k}-{j} ∷ []) q-{i} γ-{i} b-{i} o-{i} 𝓤 H A W (named {w.lft[n]}) (named {si}) {cur} δ{k}-{j} {z} {w.room(n)} same{k}-{i}) $ await ! tt $ split ! $ ')
+                    w.line(f'use3 W (later (‵ ({w.own(n, z, var(n))}) ⊛ ‵ (flft κ-{i} q-{i}))) (back-at {R} κ-{i} (ν{k}-{j} ∷ []) q-{i} γ-{i} b-{i} o-{i} 𝓤 H A W (named {w.lft[n]}) (named {si}) {cur} (length {var(n)}) {w.atom(w.len[n] or "refl")} δ{k}-{j} {z} room-{i} same{k}-{i}) $ await ! tt $ split ! $ ')
                     c.head(3, f'own-{n}', f'tok-{n}')
                 else:
                     z = cur
                     w.emit(c.front('dead', f'kept-{j}'))
-                    w.line(f'use2 W (later (‵ ({back(z, cur)}) ⊛ ‵ (flft κ-{i} q-{i}))) (shared-back {R} κ-{i} (ν{k}-{j} ∷ []) q-{i} γ-{i} b-{i} o-{i} 𝓤 H A W (named {w.lft[n]}) (named {si}) {cur} {w.room(n)}) $ await ! tt $ split ! $ ')
+                    w.line(f'use2 W (later (‵ ({w.own(n, z, var(n))}) ⊛ ‵ (flft κ-{i} q-{i}))) (shown-at {R} κ-{i} (ν{k}-{j} ∷ []) q-{i} γ-{i} b-{i} o-{i} 𝓤 H A W (named {w.lft[n]}) (named {si}) {cur} (length {var(n)}) {w.atom(w.len[n] or "refl")} room-{i}) $ await ! tt $ split ! $ ')
                     c.head(2, f'own-{n}', f'tok-{n}')
-                if w.len[n] is not None:
-                    w.line(f'rewrite ! 0 (λ (m : ℕ). ‵ (MutSlice (named {w.lft[n]}) κ-{i} {R} .own {w.ref(n, f"γ-{i}", z)} (sliceVal (b-{i}, o-{i}) m ∷ []))) {w.atom(w.len[n])} refl $ ')
                 if kind == 'mut':
                     news.append((n, t, f'c{k}-{i}', z, cur))
                     newcur[n] = f'c{k}-{i}'
                     newlen[n] = f'same{k}-{i}' if w.len[n] is None else f'same{k}-{i} ∙ {w.len[n]}'
+                w.texts[f'own-{n}'] = f'‵ ({w.own(n, z, var(n))})'
             si += 1
+            w.texts['R'] = '(' + ' ⊛ '.join([f'‵ (flft ({x[0]}) {x[1]})' for x in lfts[si:]] + ['‵ ftrue']) + ')'
+            if lent and written and si % EVERY == 0: w.write()
         w.emit(c.drop('R')); w.line('')
+        w.texts = {x: y for x, y in w.texts.items() if x == 'REST'}
         # what is forgotten
         for q in sorted(w.loc):
             v = w.loc[q]
             if v and (v['kind'] in ('ref', 'lent') or v['kind'] == 'unit' and q != 0):
                 w.emit(f'forget ! {c.ix(f"L-{q}")} refl $ '); w.loc[q] = None
         if k in w.spare: w.pack([f'L-{q}' for q in w.spare[k]], f'S-{k}')
+        if w.packs():
+            w.texts.update({f'own-{n}': f'‵ ({w.own(n, z, var(n))})' for n, t, _, z, _ in news if w.kind(n) == 'mut'})
+            w.write(); w.texts = {}
         if w.packs(): w.unpack('REST', w.rest)
         # what the next part is told
         old = w.names()
@@ -571,7 +579,7 @@ class Walk:
         c = w.c; n = w.loc[r]['of']; m = w.owned[n][2]
         w.line(f'assigns ! (agg ! (and-then ! {w.look(r)} (and-then ! {lit(("int", 64, m))} (no-more !)))) ' + to('init', '(tt, (tt, (record { fits = lit< tt }, tt)))'))
         w.line(f'rewrite ! {c.ix(f"L-{dest}")} (λ (m : ℕ). ‵ (fat fullShare ty{dest} l{dest} 0 (sliceVal {w.spot(n)} m))) (sym {w.atom(w.len[n])}) refl $ ')
-        w.loc[dest] = dict(kind='lent', of=n, mach='?')
+        w.loc[dest] = dict(kind='lent', of=n, mach=f'sliceVal {w.spot(n)} (length {w.cur[n]})')
 
     def lends(w, k, j, m, kind, t, n):
         """a local array or a `&mut [T; n]` is lent for the lifetime of call k, as its argument j"""
@@ -586,10 +594,12 @@ class Walk:
             how = f'use1 W (later (some (λ (δ : GName). ‵ ({own}) ⊛ ‵ ({kept})))) ({law} 𝓤 H A W {R} tt {size} l{q} 0 {nu} (named {m}) {cur} room-{i} {w.atom(w.len[n])})'
         else:
             w.emit(c.front(f'own-{n}', f'tok-{n}')); c.head(2)
-            own += f'(s-{i} ∷ [])'
-            how = f'use2 W (later (some (λ (δ : GName). ‵ ({own}) ⊛ ‵ (LentRef {R} κ-{i} {nu} q-{i} γ-{i} b-{i} o-{i} δ {cur})))) (lends-ref-again 𝓤 H A W {R} (named {w.lft[n]}) κ-{i} {nu} q-{i} γ-{i} b-{i} o-{i} (named {m}) {cur})'
+            own += f'(s-{i} ∷ [])'; kept = f'LentRef {R} κ-{i} {nu} q-{i} γ-{i} b-{i} o-{i} δ {cur}'
+            how = f'use2 W (later (some (λ (δ : GName). ‵ ({own}) ⊛ ‵ ({kept})))) (lends-ref-again 𝓤 H A W {R} (named {w.lft[n]}) κ-{i} {nu} q-{i} γ-{i} b-{i} o-{i} (named {m}) {cur})'
         w.open_(how + f' $ await ! tt $ pick ! (λ δ{k}-{j}. split ! $ '); w.line('')
         c.head(0, f'arg-{j}', f'kept-{j}')
+        mine = lambda x: f'‵ ({x.strip()})'.replace(w.ref(n, 'δ', cur), w.ref(n, f'δ{k}-{j}', cur)).replace(' δ ', f' δ{k}-{j} ')
+        w.texts.update({f'nu-{j}': f'‵ (flft {nu} fullShare)', f'arg-{j}': mine(own), f'kept-{j}': mine(kept)})
 
     def back(w, k, j, m, kind, t, n, z):
         """it comes back, at z"""
@@ -919,7 +929,7 @@ ENDS
             'types.Kit': 'Given Item Sq runs params′ ‵ raw _⊛_ some later ⋆ anyQ atRet _$_ _∵_ ! qed by move keep drop use1 use2 use3 rewrite split join pick fsplit fjoin feqL feqI suffices frame await done',
             'types.Run': 'look store init forget stop hop fld from load lit neg-lit unit-lit addr of-opd bin and-then no-more assigns assigns-last land stays leaves-loop returns enter alloc1 alloc0 params1 pass1 pass0 free1 free0 exec', 'types.Part': 'agg rep whole sub look-in', 'types.Tokens': 'lft-new lft-end',
             'denote.RattleType': 'owns', 'denote.Laws': 'Is shows', 'denote.Memory': 'pointee', 'denote.Plain': 'Nothing uint-makes uint-vals uint-tells uint-lawful nothing-lawful', 'denote.Builtin': 'usize u8 f64 ArrayOf', 'denote.Ref': 'RefT MutRef ptr-vals mut-tells', 'denote.Array': 'Array', 'denote.Lend': 'LentAgain·as·LentRef lends-again·as·lends-ref-again comes-back·as·ref-comes-back', 'lib.Ieee': 'Float binary64',
-            'denote.Slice': 'sliceTy sliceVal ShrSlice MutSlice Room slice-vals shr-slice-tells mut-slice-tells shr-slice-copy', 'denote.Signature': 'plain', 'denote.Steps': 'owned peeks heard nothing', 'denote.Triple.Entry': 'Vals onEntry', 'denote.Triple.Spec': 'Meets tripleOf',
+            'denote.Slice': 'sliceTy sliceVal ShrSlice MutSlice Room finally slice-vals shr-slice-tells mut-slice-tells shr-slice-copy', 'denote.Signature': 'plain', 'denote.Steps': 'owned peeks heard nothing', 'denote.Triple.Entry': 'Vals onEntry', 'denote.Triple.Spec': 'Meets tripleOf',
             'denote.Triple.Statement': 'Contract Triple', 'denote.Triple.Call': 'calls-at', 'denote.Triple.Clauses': 'ensured lasts', 'denote.Triple.Table': 'entered cited',
             'denote.Triple.Walked': 'says needs Stays stay-none stay-none-slice stay-slice stay-ref walkOf goes-none goes-none-slice goes-slice goes-ref Walks ends-at walked walk-meets', 'denote.Exit': 'yes'}
         # the parameters
@@ -1034,7 +1044,7 @@ unfolding code.routine tablesOf
                     out = new; steps.add(x)
                     base[m] = ' '.join(f'{y}·as·w-{y}' if y == x else y for y in base[m].split())
         base = {m: {y.replace('·as·', ' as ') for y in xs.split()} for m, xs in base.items()}
-        for x in ('pack', 'unpack', 'homes-freed', 'big-lit', 'says-nothing'): out = re.sub(r'(?<![\w·.\-′])' + x + ' !(?=[ )])', f'w-{x} !', out)
+        for x in ('pack', 'unpack', 'written', 'homes-freed', 'big-lit', 'says-nothing'): out = re.sub(r'(?<![\w·.\-′])' + x + ' !(?=[ )])', f'w-{x} !', out)
         # imports: what is named
         words = set(re.findall(r"[^\s(){};,]+", out))
         words |= {x.lstrip('.') for x in words}
@@ -1064,9 +1074,9 @@ unfolding code.routine tablesOf
             lines += [f'use {m} as f-{i}', f'use {m}.Symbol as def-{i}', f'use {m}.Symbol.{{name as #{G.crate}·{i}}}', f'use {m}.Met as thm-{i}']
         steps = [x for x in ('big-lit', 'says-nothing') if x in out]
         if steps: lines.append(f'use {w.plan.get("lends", f"Rattle.{h.crate}.proofs") + ".Steps"}.{{{", ".join(f"{x} as w-{x}" for x in steps)}}}')
-        if 'Packed' in out: lines.append(f'use {w.plan.get("lends", f"Rattle.{h.crate}.proofs") + ".Packs"}.{{Packed, pack as w-pack, unpack as w-unpack, homes-freed as w-homes-freed}}')
-        if 'LentAgain' in out: lines.append(f'use {w.plan.get("lends", f"Rattle.{h.crate}.proofs") + ".Again"}.{{LentAgain, lends-again, comes-back}}')
-        if 'LentShared' in out: lines.append(f'use {w.plan.get("lends", f"Rattle.{h.crate}.proofs") + ".Shared"}.{{LentShared, lends-shared, shared-back}}')
+        if 'Packed' in out: lines.append(f'use {w.plan.get("lends", f"Rattle.{h.crate}.proofs") + ".Packs"}.{{Packed, pack as w-pack, unpack as w-unpack, written as w-written, homes-freed as w-homes-freed}}')
+        if 'LentAgain' in out: lines.append(f'use {w.plan.get("lends", f"Rattle.{h.crate}.proofs") + ".Again"}.{{LentAgain, lends-at, back-at}}')
+        if 'LentShared' in out: lines.append(f'use {w.plan.get("lends", f"Rattle.{h.crate}.proofs") + ".Shared"}.{{LentShared, shows-at, shown-at}}')
         if w.owned: lines.append(f'use {w.plan.get("lends", f"Rattle.{h.crate}.proofs") + ".Owned"}.{{Lies, LentOwned, ShownOwned, array-typed, array-made, array-dies, lends-owned, owned-back, shows-owned, shown-back}}')
         m = f'Rattle.{h.crate}.proofs.' + fpath(h)
         lines += [f'use {m}.Key.{{name as #{h.crate}·{here}}}', f'use {m} as here', f'use {m}.Statement as stated', f'use {m}.Code as code']

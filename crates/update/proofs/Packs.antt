@@ -26,6 +26,11 @@ module _ {M : Type 1} {𝓤 : URA M} {H : Heap 𝓤} {A : Atoms 𝓤} {K : Type 
   unfolding Packed
   unpack t xs {Γ} = cut (raw (Packed 𝓤 H A xs) ∷ []) xs Γ (id⊢ 𝓤 (⋆ 𝓤 H A xs))
 
+module _ {M : Type 1} {𝓤 : URA M} {H : Heap 𝓤} {A : Atoms 𝓤} {K : Type 0} {W : Given 𝓤 H A} {G : Goal 𝓤 H} where
+  -- the context, written out: what follows starts from this text and not from the steps that led to it
+  pub written : K → (Γ : List (Item 𝓤)) → Step K W Γ G Γ G
+  written t Γ = step (λ s. s)
+
 abbrev pub homes : {M : Type 1} (𝓤 : URA M) → List (Ty × ℕ) → List (Item 𝓤)
 homes 𝓤 [] = []
 homes 𝓤 ((τ, b) ∷ E) = ‵ (froom τ b zero) ∷ ‵ (fdies τ b) ∷ homes 𝓤 E
