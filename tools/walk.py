@@ -170,6 +170,7 @@ def lit(o):
     """a constant: MIR writes one above 1023 with its bound, and one near the end of its width from there"""
     n = int(o[2])
     return '(lit ! tt)' if n < 1024 else '(neg-lit ! tt)' if n > 2 ** 63 else '(big-lit ! (record { fits = lit< tt }))'
+LENDING = ('lend', 'show', 'back', 'shown', 'last', 'past')
 EVERY = 3      # after so many slices that are lent or come back the context is written out
 REFS = {'shr': 'ShrSlice', 'mut': 'MutSlice', 'arr': 'MutRef'}
 def slot(t): return f'(ArrayOf (plain (λ _. {rtype(elem(t))})) (λ _. tt) {t.split(";")[1].strip()})'
@@ -361,6 +362,11 @@ class Walk:
         w.line(f'assigns ! (of-opd ! {load}) ' + to(how, ty))
         w.loc[dest] = v
 
+    def lending(w, n, m):
+        """what the steps that lend the slice n, and give it back, are told: it is the callee's lifetime m"""
+        i = w.id(n); t = next(p[2] for p in w.P if p[0] == n)
+        return f'{rtype(t)} κ-{i} q-{i} γ-{i} b-{i} o-{i} (named {w.lft[n]}) (named {m}) {w.atom(w.cur[n])} (length {var(n)}) {w.atom(w.len[n] or "refl")}'
+
     def call(w, s, tail):
         c = w.c; w.calls += 1; k = w.calls
         G = next(x for x in w.callees if x.path == s[1][1][1])
@@ -386,19 +392,14 @@ class Walk:
                 w.lends(k, j, m, kind, t, n); lfts.append((f'ν{k}-{j} ∷ []', 'fullShare', f'nu-{j}')); gi[j] = f'δ{k}-{j}'
             elif lent:
                 pk = next(p[1] for p in w.P if p[0] == n)
-                w.open_(f'lft-new ! tt (λ ν{k}-{j}. '); c.head(0, f'nu-{j}')
                 w.emit(c.front(f'own-{n}', f'tok-{n}'))
                 assert pk == 'mut', (s, 'a shared slice is lent again')
-                kd = 'MutSlice' if kind == 'mut' else 'ShrSlice'
+                kd, kept, law = ('MutSlice', f'LentAgain {R} κ-{i} (ν{k}-{j} ∷ []) q-{i} γ-{i} b-{i} o-{i} δ {cur}', 'lend') if kind == 'mut' else ('ShrSlice', f'LentShared {R} κ-{i} (ν{k}-{j} ∷ []) q-{i} γ-{i} b-{i} o-{i} {cur}', 'show')
                 lo = f'‵ ({kd} (named {m}) (ν{k}-{j} ∷ []) {R} .own {w.ref(n, "δ", cur)} (s-{i} ∷ []))'
-                if kind == 'mut':
-                    kept = f'LentAgain {R} κ-{i} (ν{k}-{j} ∷ []) q-{i} γ-{i} b-{i} o-{i} δ {cur}'; law = 'lends-at'
-                else:
-                    kept = f'LentShared {R} κ-{i} (ν{k}-{j} ∷ []) q-{i} γ-{i} b-{i} o-{i} {cur}'; law = 'shows-at'
-                w.open_(f'use2 W (later (some (λ (δ : GName). {lo} ⊛ ‵ ({kept})))) ({law} {R} κ-{i} (ν{k}-{j} ∷ []) q-{i} γ-{i} b-{i} o-{i} 𝓤 H A W (named {w.lft[n]}) (named {m}) {cur} (length {var(n)}) {w.atom(w.len[n] or "refl")}) $ await ! tt $ pick ! (λ δ{k}-{j}. split ! $ ')
+                w.open_(f'{law} ! tt {w.lending(n, m)} (λ ν{k}-{j} δ{k}-{j}. ')
                 w.line('')
-                c.head(2, f'arg-{j}', f'kept-{j}')
-                w.texts.update({f'nu-{j}': f'‵ (flft (ν{k}-{j} ∷ []) fullShare)', f'arg-{j}': lo.replace('-{i} δ ', 'X').replace(w.ref(n, 'δ', cur), w.ref(n, f'δ{k}-{j}', cur)), f'kept-{j}': '‵ (' + kept.replace(' δ ', f' δ{k}-{j} ') + ')'})
+                c.head(2, f'arg-{j}', f'kept-{j}', f'nu-{j}')
+                w.texts.update({f'nu-{j}': f'‵ (flft (ν{k}-{j} ∷ []) fullShare)', f'arg-{j}': lo.replace(w.ref(n, 'δ', cur), w.ref(n, f'δ{k}-{j}', cur)), f'kept-{j}': '‵ (' + kept.replace(' δ ', f' δ{k}-{j} ') + ')'})
                 if w.packs() and len(lfts) % EVERY == EVERY - 1: w.write()
                 lfts.append((f'ν{k}-{j} ∷ []', 'fullShare', f'nu-{j}')); gi[j] = f'δ{k}-{j}'
             else:
@@ -465,12 +466,10 @@ class Walk:
         else: w.open_(f'split ! $ move ! (1 ∷ []) $ use1 W (some (λ (zs{k} : {ZT}). ‵ (lasts {g}.ended {LF} {DEN} zs{k}) ⊛ raw (emp 𝓤))) (id⊢ 𝓤 _) $ pick ! (λ zs{k}. split ! $ move ! (1 ∷ []) $ drop ! $ '); w.line('')
         c.head(1, 'R', 'TO')
         for j, (kind, t, n, lent, l) in enumerate(info):
-            w.emit(c.front('R') + 'fsplit ! $ ')
-            if kind == 'mut':
-                w.open_(f'fsplit ! $ move ! (1 ∷ []) $ feqL ! (λ same{k}-{w.id(n)}. '); c.head(1, f'fin-{j}', 'R')
-            elif kind == 'arr': c.head(1, f'fin-{j}', 'R')
-            else:
-                c.head(1, 'X', 'R'); w.emit(c.drop('X'))
+            w.emit(c.front('R'))
+            if kind == 'mut': w.open_(f'last ! (λ same{k}-{w.id(n)}. '); c.head(1, f'fin-{j}', 'R')
+            elif kind == 'arr': w.emit('fsplit ! $ '); c.head(1, f'fin-{j}', 'R')
+            else: w.emit('past ! $ ')
         w.emit(c.drop('R')); w.line('')
         w.open_(c.front('TO') + f'split ! $ move ! (1 ∷ []) $ peeks ! {RR} (Is {RR}) (shows 𝓤 H A {RR}) u{k} (r{k} ∷ []) (λ is{k}. '); c.head(1, 'res', 'R')
         how = 'store' if w.loc.get(dest) else 'init'
@@ -486,26 +485,19 @@ class Walk:
         news = []
         for j, (kind, t, n, lent, l) in enumerate(info):
             if lent is None: continue
-            w.emit(c.front('R') + 'split ! $ '); c.head(1, lfts[si][2], 'R')
-            i = w.id(n); R = rtype(t); cur = w.cur[n]
-            if lent:
-                w.emit('lft-end ! tt $ '); c.head(1, 'dead')
+            i = w.id(n); cur = w.cur[n]
+            if not lent: w.emit(c.front('R') + 'split ! $ '); c.head(1, lfts[si][2], 'R')
+            else:
                 if w.kind(n) in ('own', 'arr'):
+                    w.emit(c.front('R') + 'split ! $ lft-end ! tt $ '); c.head(1, 'dead', 'R')
                     z = exits.get(G.params[j][0], cur); w.back(k, j, si, kind, t, n, z)
                     if kind != 'shr': news.append((n, t, f'c{k}-{i}', z, cur)); newcur[n] = f'c{k}-{i}'
                     if kind == 'mut': newlen[n] = f'same{k}-{i} ∙ {w.len[n]}'
                     if n in w.owned: w.texts[f'L-{w.owned[n][0]}'] = f'‵ ({w.lies(n, z)})'
                     si += 1; continue
-                if kind == 'mut':
-                    z = exits[G.params[j][0]]
-                    w.emit(c.front('dead', f'kept-{j}', f'fin-{j}'))
-                    w.line(f'use3 W (later (‵ ({w.own(n, z, var(n))}) ⊛ ‵ (flft κ-{i} q-{i}))) (back-at {R} κ-{i} (ν{k}-{j} ∷ []) q-{i} γ-{i} b-{i} o-{i} 𝓤 H A W (named {w.lft[n]}) (named {si}) {cur} (length {var(n)}) {w.atom(w.len[n] or "refl")} δ{k}-{j} {z} room-{i} same{k}-{i}) $ await ! tt $ split ! $ ')
-                    c.head(3, f'own-{n}', f'tok-{n}')
-                else:
-                    z = cur
-                    w.emit(c.front('dead', f'kept-{j}'))
-                    w.line(f'use2 W (later (‵ ({w.own(n, z, var(n))}) ⊛ ‵ (flft κ-{i} q-{i}))) (shown-at {R} κ-{i} (ν{k}-{j} ∷ []) q-{i} γ-{i} b-{i} o-{i} 𝓤 H A W (named {w.lft[n]}) (named {si}) {cur} (length {var(n)}) {w.atom(w.len[n] or "refl")} room-{i}) $ await ! tt $ split ! $ ')
-                    c.head(2, f'own-{n}', f'tok-{n}')
+                z = exits[G.params[j][0]] if kind == 'mut' else cur
+                if kind == 'mut': w.line(c.front('R', f'kept-{j}', f'fin-{j}') + f'back ! tt {w.lending(n, si)} ν{k}-{j} δ{k}-{j} {z} room-{i} same{k}-{i} $ '); c.head(3, f'own-{n}', f'tok-{n}', 'R')
+                else: w.line(c.front('R', f'kept-{j}') + f'shown ! tt {w.lending(n, si)} ν{k}-{j} room-{i} $ '); c.head(2, f'own-{n}', f'tok-{n}', 'R')
                 if kind == 'mut':
                     news.append((n, t, f'c{k}-{i}', z, cur))
                     newcur[n] = f'c{k}-{i}'
@@ -1044,7 +1036,7 @@ unfolding code.routine tablesOf
                     out = new; steps.add(x)
                     base[m] = ' '.join(f'{y}·as·w-{y}' if y == x else y for y in base[m].split())
         base = {m: {y.replace('·as·', ' as ') for y in xs.split()} for m, xs in base.items()}
-        for x in ('pack', 'unpack', 'written', 'homes-freed', 'big-lit', 'says-nothing'): out = re.sub(r'(?<![\w·.\-′])' + x + ' !(?=[ )])', f'w-{x} !', out)
+        for x in LENDING + ('pack', 'unpack', 'written', 'homes-freed', 'big-lit', 'says-nothing'): out = re.sub(r'(?<![\w·.\-′])' + x + ' !(?=[ )])', f'w-{x} !', out)
         # imports: what is named
         words = set(re.findall(r"[^\s(){};,]+", out))
         words |= {x.lstrip('.') for x in words}
@@ -1075,8 +1067,11 @@ unfolding code.routine tablesOf
         steps = [x for x in ('big-lit', 'says-nothing') if x in out]
         if steps: lines.append(f'use {w.plan.get("lends", f"Rattle.{h.crate}.proofs") + ".Steps"}.{{{", ".join(f"{x} as w-{x}" for x in steps)}}}')
         if 'Packed' in out: lines.append(f'use {w.plan.get("lends", f"Rattle.{h.crate}.proofs") + ".Packs"}.{{Packed, pack as w-pack, unpack as w-unpack, written as w-written, homes-freed as w-homes-freed}}')
-        if 'LentAgain' in out: lines.append(f'use {w.plan.get("lends", f"Rattle.{h.crate}.proofs") + ".Again"}.{{LentAgain, lends-at, back-at}}')
-        if 'LentShared' in out: lines.append(f'use {w.plan.get("lends", f"Rattle.{h.crate}.proofs") + ".Shared"}.{{LentShared, shows-at, shown-at}}')
+        home = w.plan.get('lends', f'Rattle.{h.crate}.proofs')
+        if 'LentAgain' in out: lines.append(f'use {home}.Again.{{LentAgain}}')
+        if 'LentShared' in out: lines.append(f'use {home}.Shared.{{LentShared}}')
+        steps = [x for x in LENDING if f'w-{x} !' in out]
+        if steps: lines.append(f'use {home}.Lending.{{{", ".join(f"{x} as w-{x}" for x in steps)}}}')
         if w.owned: lines.append(f'use {w.plan.get("lends", f"Rattle.{h.crate}.proofs") + ".Owned"}.{{Lies, LentOwned, ShownOwned, array-typed, array-made, array-dies, lends-owned, owned-back, shows-owned, shown-back}}')
         m = f'Rattle.{h.crate}.proofs.' + fpath(h)
         lines += [f'use {m}.Key.{{name as #{h.crate}·{here}}}', f'use {m} as here', f'use {m}.Statement as stated', f'use {m}.Code as code']

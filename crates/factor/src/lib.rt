@@ -1,22 +1,14 @@
-// The second call: structure and values of a matrix's factor, in lent areas. The borrow checker covers no slice of updates, so
-// that the call only hands the areas on: what is to be decided is decided in covered functions, and counts of 0 do nothing.
+// The second call: structure and values of a matrix's factor, in lent areas.
 ghost use lib.ListN.{length};
 ghost use Rattle.statement.specs.Input.{matrix};
 ghost use Rattle.statement.specs.Calls.{factor};
 ghost use Rattle.factor.specs.Filled.{FactorSettles, lentAll};
 use begin::begin;
-use begin::entries;
-use begin::steps;
-use finish::finish;
-use listing::lay;
-use run::run;
+use settling::settle;
 use statement::Order;
 use statement::Outcome;
 use statement::Stop;
 use statement::Update;
-use survey::stale;
-use survey::supernodes;
-use update::clear;
 
 // The factor of a matrix with n columns, if it has at most cap entries, in the plain order or that of the list, stopped where it is
 // said. Refused: an empty record, and zeros in every area.
@@ -43,7 +35,6 @@ pub fn factor(
 ) -> Outcome
     ensures { λ x. ⌜ FactorSettles (factor (matrix n (now («input_starts» .entry)) (now («input_rows» .entry)) (now («input_values» .entry))) cap order (now (list .entry)) stop (lentAll (length (now (permutation .entry))) (length (now (firsts .entry))) (length (now (starts .entry))) (length (now (groups .entry))) (length (now (tasks .entry))) (length (now (top .entry))) (length (now (words .entry))) (length (now (floats .entry))) (length (now (rows .entry))) (length (now (updates .entry))) (length (now (values .entry))))) x (now (permutation .exit)) (now (firsts .exit)) (now (starts .exit)) (now (groups .exit)) (now (tasks .exit)) (now (top .exit)) (now (words .exit)) (now (floats .exit)) (now (rows .exit)) (now (updates .exit)) (now (values .exit)) ⌝ }
 {
-    let long = updates.len();
     let x = begin(
         n,
         input_starts,
@@ -53,7 +44,7 @@ pub fn factor(
         order,
         list,
         stop,
-        long,
+        updates.len(),
         permutation,
         firsts,
         starts,
@@ -65,39 +56,8 @@ pub fn factor(
         rows,
         values,
     );
-    let ns = supernodes(x);
-    lay(
-        ns,
-        n,
-        input_starts,
-        input_rows,
-        firsts,
-        starts,
-        rows,
-        words,
-        updates,
-    );
-    let t = steps(x, stop);
-    let total = entries(x);
-    let a = input_rows.len();
-    let least = run(
-        t,
-        ns,
-        n,
-        a,
-        total,
-        firsts,
-        starts,
-        rows,
-        groups,
-        updates,
-        words,
-        floats,
-        values,
-    );
-    let made = finish(
+    settle(
         x,
-        least,
         n,
         input_starts,
         input_rows,
@@ -106,7 +66,6 @@ pub fn factor(
         order,
         list,
         stop,
-        long,
         permutation,
         firsts,
         starts,
@@ -116,9 +75,7 @@ pub fn factor(
         words,
         floats,
         rows,
+        updates,
         values,
-    );
-    let old = stale(made, long);
-    clear(updates, old);
-    made
+    )
 }

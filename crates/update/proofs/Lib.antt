@@ -4,4 +4,5 @@ pub mod Shared
 pub mod Owned
 pub mod Laws
 pub mod Packs
+pub mod Lending
 pub mod Steps

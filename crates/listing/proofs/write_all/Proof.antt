@@ -44,10 +44,9 @@ use prog.Routine.{Routine}
 use prog.Wp.{Calls, Env, Heap, Loops, Out, Tables, Wp, WpFn, afterBlock, afterSeq, afterTurn, atReturn}
 use sound.Loop.{loop-rule}
 use sound.WpLaws.{FmC, WpFn-mono, fmOf}
-use types.Kit.{ !, Given, Item, _$_, _∵_, _⊛_, anyQ, atRet, await as w-await, by as w-by, done, drop as w-drop, feqI as w-feqI, feqL as w-feqL, fjoin as w-fjoin, frame as w-frame, fsplit as w-fsplit, join as w-join, keep as w-keep, later, move as w-move, pick as w-pick, qed, raw, rewrite as w-rewrite, some, split as w-split, suffices as w-suffices, use1, use2, use3, ‵, ⋆}
+use types.Kit.{ !, Given, Item, _$_, _∵_, _⊛_, anyQ, atRet, await as w-await, by as w-by, done, drop as w-drop, feqI as w-feqI, fjoin as w-fjoin, frame as w-frame, fsplit as w-fsplit, join as w-join, keep as w-keep, later, move as w-move, pick as w-pick, qed, raw, rewrite as w-rewrite, some, split as w-split, suffices as w-suffices, use1, use2, ‵, ⋆}
 use types.Part.{agg as w-agg, look-in as w-look-in, sub as w-sub, whole as w-whole}
 use types.Run.{addr as w-addr, alloc0 as w-alloc0, alloc1 as w-alloc1, and-then as w-and-then, assigns as w-assigns, assigns-last as w-assigns-last, bin as w-bin, enter as w-enter, exec as w-exec, fld as w-fld, forget as w-forget, from as w-from, hop as w-hop, init as w-init, land as w-land, leaves-loop as w-leaves-loop, lit as w-lit, load as w-load, look as w-look, no-more as w-no-more, of-opd as w-of-opd, params1 as w-params1, pass0 as w-pass0, pass1 as w-pass1, returns as w-returns, stays as w-stays, stop as w-stop, store as w-store, unit-lit as w-unit-lit}
-use types.Tokens.{lft-end as w-lft-end, lft-new as w-lft-new}
 use Rattle.statement.specs.declared.Update.{Update}
 use Rattle.statement.proofs.Update as T-Update
 use Rattle.updates.proofs.scan_one as f-scan-one
@@ -58,9 +57,8 @@ use Rattle.listing.proofs.write_one as f-write-one
 use Rattle.listing.proofs.write_one.Symbol as def-write-one
 use Rattle.listing.proofs.write_one.Symbol.{name as #listing·write-one}
 use Rattle.listing.proofs.write_one.Met as thm-write-one
-use Rattle.update.proofs.Packs.{Packed, pack as w-pack, unpack as w-unpack, homes-freed as w-homes-freed}
-use Rattle.update.proofs.Again.{LentAgain, lends-again, comes-back}
-use Rattle.update.proofs.Shared.{LentShared, lends-shared, shared-back}
+use Rattle.update.proofs.Packs.{Packed, pack as w-pack, unpack as w-unpack, written as w-written, homes-freed as w-homes-freed}
+use Rattle.update.proofs.Lending.{lend as w-lend, show as w-show, back as w-back, shown as w-shown, last as w-last, past as w-past}
 use Rattle.listing.proofs.write_all.Key.{name as #listing·write-all}
 use Rattle.listing.proofs.write_all as here
 use Rattle.listing.proofs.write_all.Statement as stated
@@ -211,13 +209,13 @@ module _ {M : Type 1} (𝓤 : URA M) (H : Heap 𝓤) (A : Atoms 𝓤) (W : Given
     abbrev fm : FmC 𝓤 H (W .laws) (𝓣 .C)
     fm = fmOf 𝓤 H (W .laws) 𝓣
 
-    asked1 : (i : ℕ) (v-words : List ℕ) (v-us : List Update) (len-words : length v-words ≡ length words) (len-us : length v-us ≡ length us) (kept : Writing n ns input-starts input-rows words v-words us v-us i) (small : i < ns) (ν1-8 : ℕ) (δ1-8 : GName) → ent 𝓤 (onEntry 𝓤 H A f-scan-one.signature (κ-input-starts, (κ-input-rows, (κ-firsts, (κ-starts, (κ-rows, (ν1-8 ∷ [], tt)))))) (q-input-starts, (q-input-rows, (q-firsts, (q-starts, (q-rows, (fullShare, tt)))))) (n, (ns, (ref-input-starts γ-input-starts input-starts, (ref-input-rows γ-input-rows input-rows, (ref-firsts γ-firsts firsts, (ref-starts γ-starts starts, (ref-rows γ-rows rows, (i, (ref-words δ1-8 v-words, tt))))))))) (vint w64 n ∷ [], (vint w64 ns ∷ [], (sliceVal (b-input-starts, o-input-starts) (length input-starts) ∷ [], (sliceVal (b-input-rows, o-input-rows) (length input-rows) ∷ [], (sliceVal (b-firsts, o-firsts) (length firsts) ∷ [], (sliceVal (b-starts, o-starts) (length starts) ∷ [], (sliceVal (b-rows, o-rows) (length rows) ∷ [], (vint w64 i ∷ [], (sliceVal (b-words, o-words) (length v-words) ∷ [], tt)))))))))) (C-scan-one 𝓤 H A mem run .pre (((κ-input-starts, (κ-input-rows, (κ-firsts, (κ-starts, (κ-rows, (ν1-8 ∷ [], tt)))))), (q-input-starts, (q-input-rows, (q-firsts, (q-starts, (q-rows, (fullShare, tt)))))), tt, (n, (ns, (ref-input-starts γ-input-starts input-starts, (ref-input-rows γ-input-rows input-rows, (ref-firsts γ-firsts firsts, (ref-starts γ-starts starts, (ref-rows γ-rows rows, (i, (ref-words δ1-8 v-words, tt))))))))), (vint w64 n ∷ [], (vint w64 ns ∷ [], (sliceVal (b-input-starts, o-input-starts) (length input-starts) ∷ [], (sliceVal (b-input-rows, o-input-rows) (length input-rows) ∷ [], (sliceVal (b-firsts, o-firsts) (length firsts) ∷ [], (sliceVal (b-starts, o-starts) (length starts) ∷ [], (sliceVal (b-rows, o-rows) (length rows) ∷ [], (vint w64 i ∷ [], (sliceVal (b-words, o-words) (length v-words) ∷ [], tt)))))))))), tt))
+    asked1 : (i : ℕ) (v-words : List ℕ) (v-us : List Update) (len-words : length v-words ≡ length words) (len-us : length v-us ≡ length us) (kept : Writing n ns input-starts input-rows words v-words us v-us i) (small : i < ns) (ν1-8 : ℕ) (δ1-8 : GName) → ent 𝓤 (onEntry 𝓤 H A f-scan-one.signature (κ-input-starts, (κ-input-rows, (κ-firsts, (κ-starts, (κ-rows, (ν1-8 ∷ [], tt)))))) (q-input-starts, (q-input-rows, (q-firsts, (q-starts, (q-rows, (fullShare, tt)))))) (n, (ns, (ref-input-starts γ-input-starts input-starts, (ref-input-rows γ-input-rows input-rows, (ref-firsts γ-firsts firsts, (ref-starts γ-starts starts, (ref-rows γ-rows rows, (i, (ref-words δ1-8 v-words, tt))))))))) (vint w64 n ∷ [], (vint w64 ns ∷ [], (s-input-starts ∷ [], (s-input-rows ∷ [], (s-firsts ∷ [], (s-starts ∷ [], (s-rows ∷ [], (vint w64 i ∷ [], (s-words ∷ [], tt)))))))))) (C-scan-one 𝓤 H A mem run .pre (((κ-input-starts, (κ-input-rows, (κ-firsts, (κ-starts, (κ-rows, (ν1-8 ∷ [], tt)))))), (q-input-starts, (q-input-rows, (q-firsts, (q-starts, (q-rows, (fullShare, tt)))))), tt, (n, (ns, (ref-input-starts γ-input-starts input-starts, (ref-input-rows γ-input-rows input-rows, (ref-firsts γ-firsts firsts, (ref-starts γ-starts starts, (ref-rows γ-rows rows, (i, (ref-words δ1-8 v-words, tt))))))))), (vint w64 n ∷ [], (vint w64 ns ∷ [], (s-input-starts ∷ [], (s-input-rows ∷ [], (s-firsts ∷ [], (s-starts ∷ [], (s-rows ∷ [], (vint w64 i ∷ [], (s-words ∷ [], tt)))))))))), tt))
     asked1 i v-words v-us len-words len-us kept small ν1-8 δ1-8 =
-        let need : ToScan n ns (input-starts) (input-rows) (firsts) (starts) (rows) i (v-words) = to-scan pre kept len-words small in qed W ((‵ (flft (κ-input-starts) q-input-starts) ⊛ ‵ (flft (κ-input-rows) q-input-rows) ⊛ ‵ (flft (κ-firsts) q-firsts) ⊛ ‵ (flft (κ-starts) q-starts) ⊛ ‵ (flft (κ-rows) q-rows) ⊛ ‵ (flft (ν1-8 ∷ []) fullShare) ⊛ ‵ ftrue) ∷ ‵ (owns (usize ∷ usize ∷ ShrSlice (named 0) (κ-input-starts) usize ∷ ShrSlice (named 1) (κ-input-rows) usize ∷ ShrSlice (named 2) (κ-firsts) usize ∷ ShrSlice (named 3) (κ-starts) usize ∷ ShrSlice (named 4) (κ-rows) usize ∷ usize ∷ MutSlice (named 5) (ν1-8 ∷ []) usize ∷ []) (n, (ns, (ref-input-starts γ-input-starts input-starts, (ref-input-rows γ-input-rows input-rows, (ref-firsts γ-firsts firsts, (ref-starts γ-starts starts, (ref-rows γ-rows rows, (i, (ref-words δ1-8 v-words, tt))))))))) (vint w64 n ∷ [], (vint w64 ns ∷ [], (sliceVal (b-input-starts, o-input-starts) (length input-starts) ∷ [], (sliceVal (b-input-rows, o-input-rows) (length input-rows) ∷ [], (sliceVal (b-firsts, o-firsts) (length firsts) ∷ [], (sliceVal (b-starts, o-starts) (length starts) ∷ [], (sliceVal (b-rows, o-rows) (length rows) ∷ [], (vint w64 i ∷ [], (sliceVal (b-words, o-words) (length v-words) ∷ [], tt)))))))))) ∷ []) ∵ w-says ! need $ w-frame ! $ done !
+        let need : ToScan n ns (input-starts) (input-rows) (firsts) (starts) (rows) i (v-words) = to-scan pre kept len-words small in qed W ((‵ (flft (κ-input-starts) q-input-starts) ⊛ ‵ (flft (κ-input-rows) q-input-rows) ⊛ ‵ (flft (κ-firsts) q-firsts) ⊛ ‵ (flft (κ-starts) q-starts) ⊛ ‵ (flft (κ-rows) q-rows) ⊛ ‵ (flft (ν1-8 ∷ []) fullShare) ⊛ ‵ ftrue) ∷ ‵ (owns (usize ∷ usize ∷ ShrSlice (named 0) (κ-input-starts) usize ∷ ShrSlice (named 1) (κ-input-rows) usize ∷ ShrSlice (named 2) (κ-firsts) usize ∷ ShrSlice (named 3) (κ-starts) usize ∷ ShrSlice (named 4) (κ-rows) usize ∷ usize ∷ MutSlice (named 5) (ν1-8 ∷ []) usize ∷ []) (n, (ns, (ref-input-starts γ-input-starts input-starts, (ref-input-rows γ-input-rows input-rows, (ref-firsts γ-firsts firsts, (ref-starts γ-starts starts, (ref-rows γ-rows rows, (i, (ref-words δ1-8 v-words, tt))))))))) (vint w64 n ∷ [], (vint w64 ns ∷ [], (s-input-starts ∷ [], (s-input-rows ∷ [], (s-firsts ∷ [], (s-starts ∷ [], (s-rows ∷ [], (vint w64 i ∷ [], (s-words ∷ [], tt)))))))))) ∷ []) ∵ w-says ! need $ w-frame ! $ done !
 
-    asked2 : (i : ℕ) (v-words : List ℕ) (v-us : List Update) (len-words : length v-words ≡ length words) (len-us : length v-us ≡ length us) (kept : Writing n ns input-starts input-rows words v-words us v-us i) (small : i < ns) (u1 : ℕ) (r1 : Val) (is1 : Is usize u1 (r1 ∷ [])) (c1-words : List ℕ) (d1 : Scanned (shaped n (input-starts) (input-rows)) n i (v-words) (c1-words) u1) (same1-words : length c1-words ≡ length v-words) (ν2-3 : ℕ) (δ2-3 : GName) (ν2-4 : ℕ) (δ2-4 : GName) → ent 𝓤 (onEntry 𝓤 H A f-write-one.signature (ν2-3 ∷ [], (ν2-4 ∷ [], tt)) (fullShare, (fullShare, tt)) (i, (u1, (n, (ref-words δ2-3 c1-words, (ref-us δ2-4 v-us, tt))))) (vint w64 i ∷ [], (r1 ∷ [], (vint w64 n ∷ [], (sliceVal (b-words, o-words) (length c1-words) ∷ [], (sliceVal (b-us, o-us) (length v-us) ∷ [], tt)))))) (C-write-one 𝓤 H A mem run .pre (((ν2-3 ∷ [], (ν2-4 ∷ [], tt)), (fullShare, (fullShare, tt)), tt, (i, (u1, (n, (ref-words δ2-3 c1-words, (ref-us δ2-4 v-us, tt))))), (vint w64 i ∷ [], (r1 ∷ [], (vint w64 n ∷ [], (sliceVal (b-words, o-words) (length c1-words) ∷ [], (sliceVal (b-us, o-us) (length v-us) ∷ [], tt)))))), tt))
+    asked2 : (i : ℕ) (v-words : List ℕ) (v-us : List Update) (len-words : length v-words ≡ length words) (len-us : length v-us ≡ length us) (kept : Writing n ns input-starts input-rows words v-words us v-us i) (small : i < ns) (u1 : ℕ) (r1 : Val) (is1 : Is usize u1 (r1 ∷ [])) (c1-words : List ℕ) (d1 : Scanned (shaped n (input-starts) (input-rows)) n i (v-words) (c1-words) u1) (same1-words : length c1-words ≡ length v-words) (ν2-3 : ℕ) (δ2-3 : GName) (ν2-4 : ℕ) (δ2-4 : GName) → ent 𝓤 (onEntry 𝓤 H A f-write-one.signature (ν2-3 ∷ [], (ν2-4 ∷ [], tt)) (fullShare, (fullShare, tt)) (i, (u1, (n, (ref-words δ2-3 c1-words, (ref-us δ2-4 v-us, tt))))) (vint w64 i ∷ [], (r1 ∷ [], (vint w64 n ∷ [], (s-words ∷ [], (s-us ∷ [], tt)))))) (C-write-one 𝓤 H A mem run .pre (((ν2-3 ∷ [], (ν2-4 ∷ [], tt)), (fullShare, (fullShare, tt)), tt, (i, (u1, (n, (ref-words δ2-3 c1-words, (ref-us δ2-4 v-us, tt))))), (vint w64 i ∷ [], (r1 ∷ [], (vint w64 n ∷ [], (s-words ∷ [], (s-us ∷ [], tt)))))), tt))
     asked2 i v-words v-us len-words len-us kept small u1 r1 is1 c1-words d1 same1-words ν2-3 δ2-3 ν2-4 δ2-4 =
-        let need : ToWrite n u1 (c1-words) (length (v-us)) = to-write pre kept len-words small d1 same1-words len-us in qed W ((‵ (flft (ν2-3 ∷ []) fullShare) ⊛ ‵ (flft (ν2-4 ∷ []) fullShare) ⊛ ‵ ftrue) ∷ ‵ (owns (usize ∷ usize ∷ usize ∷ ShrSlice (named 0) (ν2-3 ∷ []) usize ∷ MutSlice (named 1) (ν2-4 ∷ []) T-Update.the-row ∷ []) (i, (u1, (n, (ref-words δ2-3 c1-words, (ref-us δ2-4 v-us, tt))))) (vint w64 i ∷ [], (r1 ∷ [], (vint w64 n ∷ [], (sliceVal (b-words, o-words) (length c1-words) ∷ [], (sliceVal (b-us, o-us) (length v-us) ∷ [], tt)))))) ∷ []) ∵ w-says ! need $ w-frame ! $ done !
+        let need : ToWrite n u1 (c1-words) (length (v-us)) = to-write pre kept len-words small d1 same1-words len-us in qed W ((‵ (flft (ν2-3 ∷ []) fullShare) ⊛ ‵ (flft (ν2-4 ∷ []) fullShare) ⊛ ‵ ftrue) ∷ ‵ (owns (usize ∷ usize ∷ usize ∷ ShrSlice (named 0) (ν2-3 ∷ []) usize ∷ MutSlice (named 1) (ν2-4 ∷ []) T-Update.the-row ∷ []) (i, (u1, (n, (ref-words δ2-3 c1-words, (ref-us δ2-4 v-us, tt))))) (vint w64 i ∷ [], (r1 ∷ [], (vint w64 n ∷ [], (s-words ∷ [], (s-us ∷ [], tt)))))) ∷ []) ∵ w-says ! need $ w-frame ! $ done !
 
     again : (i : ℕ) (v-words : List ℕ) (v-us : List Update) (len-words : length v-words ≡ length words) (len-us : length v-us ≡ length us) (kept : Writing n ns input-starts input-rows words v-words us v-us i) (small : i < ns) (u1 : ℕ) (r1 : Val) (is1 : Is usize u1 (r1 ∷ [])) (c1-words : List ℕ) (d1 : Scanned (shaped n (input-starts) (input-rows)) n i (v-words) (c1-words) u1) (same1-words : length c1-words ≡ length v-words) (c2-us : List Update) (d2 : c2-us ≡ written i u1 (drop (updatesAt n) (c1-words)) (v-us)) (same2-us : length c2-us ≡ length v-us) → Writing n ns input-starts input-rows words c1-words us c2-us (suc i)
     again i v-words v-us len-words len-us kept small u1 r1 is1 c1-words d1 same1-words c2-us d2 same2-us = writing-more pre kept len-words small d1 same1-words d2
@@ -253,46 +251,40 @@ module _ {M : Type 1} (𝓤 : URA M) (H : Heap 𝓤) (A : Atoms 𝓤) (W : Given
           w-rewrite ! 26 (λ (t : Bool). ‵ (fat fullShare tyBool l12 0 (vbool t))) (holds _ (lt→ltb i ns small)) refl $
           w-stays ! (w-load ! (w-from ! (w-stop !)) (w-look ! 26 refl)) $
           w-assigns ! (w-addr ! (w-from ! (w-fld ! refl (w-hop ! (w-look-in ! 22 (w-sub ! 0 refl (w-whole !))) (w-stop !))))) (w-from ! (w-stop !)) (w-init ! 27 refl (tt, tt)) $ w-assigns ! (w-agg ! (w-and-then ! (w-load ! (w-from ! (w-stop !)) (w-look ! 27 refl)) (w-and-then ! (w-load ! (w-from ! (w-fld ! refl (w-stop !))) (w-look-in ! 22 (w-sub ! 1 refl (w-whole !)))) (w-no-more !)))) (w-from ! (w-stop !)) (w-init ! 28 refl (tt, (tt, (record { fits = room-words .0 }, tt)))) $
-          w-rewrite ! 28 (λ (m : ℕ). ‵ (fat fullShare ty14 l14 0 (sliceVal (b-words, o-words) m))) (sym len-words) refl $
           use1 W (‵ (ShrSlice (named 0) κ-input-starts usize .own (ref-input-starts γ-input-starts input-starts) (sliceVal (b-input-starts, o-input-starts) (length input-starts) ∷ [])) ⊛ ‵ (ShrSlice (named 0) κ-input-starts usize .own (ref-input-starts γ-input-starts input-starts) (sliceVal (b-input-starts, o-input-starts) (length input-starts) ∷ []))) (shr-slice-copy 𝓤 H A W (named 0) κ-input-starts usize .twice (ref-input-starts γ-input-starts input-starts) (s-input-starts ∷ [])) $ w-split ! $
           w-move ! (2 ∷ []) $ use1 W (‵ (ShrSlice (named 1) κ-input-rows usize .own (ref-input-rows γ-input-rows input-rows) (sliceVal (b-input-rows, o-input-rows) (length input-rows) ∷ [])) ⊛ ‵ (ShrSlice (named 1) κ-input-rows usize .own (ref-input-rows γ-input-rows input-rows) (sliceVal (b-input-rows, o-input-rows) (length input-rows) ∷ []))) (shr-slice-copy 𝓤 H A W (named 1) κ-input-rows usize .twice (ref-input-rows γ-input-rows input-rows) (s-input-rows ∷ [])) $ w-split ! $
           w-move ! (4 ∷ []) $ use1 W (‵ (ShrSlice (named 2) κ-firsts usize .own (ref-firsts γ-firsts firsts) (sliceVal (b-firsts, o-firsts) (length firsts) ∷ [])) ⊛ ‵ (ShrSlice (named 2) κ-firsts usize .own (ref-firsts γ-firsts firsts) (sliceVal (b-firsts, o-firsts) (length firsts) ∷ []))) (shr-slice-copy 𝓤 H A W (named 2) κ-firsts usize .twice (ref-firsts γ-firsts firsts) (s-firsts ∷ [])) $ w-split ! $
           w-move ! (6 ∷ []) $ use1 W (‵ (ShrSlice (named 3) κ-starts usize .own (ref-starts γ-starts starts) (sliceVal (b-starts, o-starts) (length starts) ∷ [])) ⊛ ‵ (ShrSlice (named 3) κ-starts usize .own (ref-starts γ-starts starts) (sliceVal (b-starts, o-starts) (length starts) ∷ []))) (shr-slice-copy 𝓤 H A W (named 3) κ-starts usize .twice (ref-starts γ-starts starts) (s-starts ∷ [])) $ w-split ! $
           w-move ! (8 ∷ []) $ use1 W (‵ (ShrSlice (named 4) κ-rows usize .own (ref-rows γ-rows rows) (sliceVal (b-rows, o-rows) (length rows) ∷ [])) ⊛ ‵ (ShrSlice (named 4) κ-rows usize .own (ref-rows γ-rows rows) (sliceVal (b-rows, o-rows) (length rows) ∷ []))) (shr-slice-copy 𝓤 H A W (named 4) κ-rows usize .twice (ref-rows γ-rows rows) (s-rows ∷ [])) $ w-split ! $
-          w-lft-new ! tt (λ ν1-8. w-rewrite ! 11 (λ (m : ℕ). ‵ (MutSlice (named 5) κ-words usize .own (ref-words γ-words v-words) (sliceVal (b-words, o-words) m ∷ []))) (sym len-words) refl $ w-move ! (11 ∷ 18 ∷ []) $ use2 W (later (some (λ (δ : GName). ‵ (MutSlice (named 5) (ν1-8 ∷ []) usize .own (ref-words δ v-words) (sliceVal (b-words, o-words) (length v-words) ∷ [])) ⊛ ‵ (LentAgain usize κ-words (ν1-8 ∷ []) q-words γ-words b-words o-words δ v-words)))) (lends-again usize κ-words (ν1-8 ∷ []) q-words γ-words b-words o-words 𝓤 H A W (named 5) (named 5) v-words) $ w-await ! tt $ w-pick ! (λ δ1-8. w-split ! $
+          w-move ! (10 ∷ 17 ∷ []) $ w-lend ! tt usize κ-words q-words γ-words b-words o-words (named 5) (named 5) v-words (length words) len-words (λ ν1-8 δ1-8.
           w-nothing ! $ w-move ! (1 ∷ 0 ∷ []) $ w-fjoin ! $ w-owned ! usize (Is usize) (uint-makes 𝓤 H A W w64) i _ ((refl, fits-turn)) $ w-fjoin ! $ w-move ! (3 ∷ 0 ∷ []) $ w-fjoin ! $ w-move ! (4 ∷ 0 ∷ []) $ w-fjoin ! $ w-move ! (5 ∷ 0 ∷ []) $ w-fjoin ! $ w-move ! (6 ∷ 0 ∷ []) $ w-fjoin ! $ w-move ! (7 ∷ 0 ∷ []) $ w-fjoin ! $ w-owned ! usize (Is usize) (uint-makes 𝓤 H A W w64) ns _ ((refl, fits-ns)) $ w-fjoin ! $ w-owned ! usize (Is usize) (uint-makes 𝓤 H A W w64) n _ ((refl, fits-n)) $ w-fjoin ! $
           w-nothing ! $ w-move ! (3 ∷ 0 ∷ []) $ w-join ! $ w-move ! (13 ∷ 0 ∷ []) $ w-join ! $ w-move ! (12 ∷ 0 ∷ []) $ w-join ! $ w-move ! (11 ∷ 0 ∷ []) $ w-join ! $ w-move ! (10 ∷ 0 ∷ []) $ w-join ! $ w-move ! (9 ∷ 0 ∷ []) $ w-join ! $
-          use2 W (raw (C-scan-one 𝓤 H A mem run .pre (((κ-input-starts, (κ-input-rows, (κ-firsts, (κ-starts, (κ-rows, (ν1-8 ∷ [], tt)))))), (q-input-starts, (q-input-rows, (q-firsts, (q-starts, (q-rows, (fullShare, tt)))))), tt, (n, (ns, (ref-input-starts γ-input-starts input-starts, (ref-input-rows γ-input-rows input-rows, (ref-firsts γ-firsts firsts, (ref-starts γ-starts starts, (ref-rows γ-rows rows, (i, (ref-words δ1-8 v-words, tt))))))))), (vint w64 n ∷ [], (vint w64 ns ∷ [], (sliceVal (b-input-starts, o-input-starts) (length input-starts) ∷ [], (sliceVal (b-input-rows, o-input-rows) (length input-rows) ∷ [], (sliceVal (b-firsts, o-firsts) (length firsts) ∷ [], (sliceVal (b-starts, o-starts) (length starts) ∷ [], (sliceVal (b-rows, o-rows) (length rows) ∷ [], (vint w64 i ∷ [], (sliceVal (b-words, o-words) (length v-words) ∷ [], tt)))))))))), tt))) (asked1 i v-words v-us len-words len-us kept small ν1-8 δ1-8) $
-          w-calls-at ! fm (C-scan-one 𝓤 H A mem run) known-scan-one (((κ-input-starts, (κ-input-rows, (κ-firsts, (κ-starts, (κ-rows, (ν1-8 ∷ [], tt)))))), (q-input-starts, (q-input-rows, (q-firsts, (q-starts, (q-rows, (fullShare, tt)))))), tt, (n, (ns, (ref-input-starts γ-input-starts input-starts, (ref-input-rows γ-input-rows input-rows, (ref-firsts γ-firsts firsts, (ref-starts γ-starts starts, (ref-rows γ-rows rows, (i, (ref-words δ1-8 v-words, tt))))))))), (vint w64 n ∷ [], (vint w64 ns ∷ [], (sliceVal (b-input-starts, o-input-starts) (length input-starts) ∷ [], (sliceVal (b-input-rows, o-input-rows) (length input-rows) ∷ [], (sliceVal (b-firsts, o-firsts) (length firsts) ∷ [], (sliceVal (b-starts, o-starts) (length starts) ∷ [], (sliceVal (b-rows, o-rows) (length rows) ∷ [], (vint w64 i ∷ [], (sliceVal (b-words, o-words) (length v-words) ∷ [], tt)))))))))), tt) (w-and-then ! (w-load ! (w-from ! (w-stop !)) (w-look ! 11 refl)) (w-and-then ! (w-load ! (w-from ! (w-stop !)) (w-look ! 10 refl)) (w-and-then ! (w-load ! (w-from ! (w-stop !)) (w-look ! 12 refl)) (w-and-then ! (w-load ! (w-from ! (w-stop !)) (w-look ! 13 refl)) (w-and-then ! (w-load ! (w-from ! (w-stop !)) (w-look ! 14 refl)) (w-and-then ! (w-load ! (w-from ! (w-stop !)) (w-look ! 15 refl)) (w-and-then ! (w-load ! (w-from ! (w-stop !)) (w-look ! 16 refl)) (w-and-then ! (w-load ! (w-from ! (w-stop !)) (w-look ! 19 refl)) (w-and-then ! (w-load ! (w-from ! (w-stop !)) (w-look ! 23 refl)) (w-no-more !)))))))))) (λ r1.
+          use2 W (raw (C-scan-one 𝓤 H A mem run .pre (((κ-input-starts, (κ-input-rows, (κ-firsts, (κ-starts, (κ-rows, (ν1-8 ∷ [], tt)))))), (q-input-starts, (q-input-rows, (q-firsts, (q-starts, (q-rows, (fullShare, tt)))))), tt, (n, (ns, (ref-input-starts γ-input-starts input-starts, (ref-input-rows γ-input-rows input-rows, (ref-firsts γ-firsts firsts, (ref-starts γ-starts starts, (ref-rows γ-rows rows, (i, (ref-words δ1-8 v-words, tt))))))))), (vint w64 n ∷ [], (vint w64 ns ∷ [], (s-input-starts ∷ [], (s-input-rows ∷ [], (s-firsts ∷ [], (s-starts ∷ [], (s-rows ∷ [], (vint w64 i ∷ [], (s-words ∷ [], tt)))))))))), tt))) (asked1 i v-words v-us len-words len-us kept small ν1-8 δ1-8) $
+          w-calls-at ! fm (C-scan-one 𝓤 H A mem run) known-scan-one (((κ-input-starts, (κ-input-rows, (κ-firsts, (κ-starts, (κ-rows, (ν1-8 ∷ [], tt)))))), (q-input-starts, (q-input-rows, (q-firsts, (q-starts, (q-rows, (fullShare, tt)))))), tt, (n, (ns, (ref-input-starts γ-input-starts input-starts, (ref-input-rows γ-input-rows input-rows, (ref-firsts γ-firsts firsts, (ref-starts γ-starts starts, (ref-rows γ-rows rows, (i, (ref-words δ1-8 v-words, tt))))))))), (vint w64 n ∷ [], (vint w64 ns ∷ [], (s-input-starts ∷ [], (s-input-rows ∷ [], (s-firsts ∷ [], (s-starts ∷ [], (s-rows ∷ [], (vint w64 i ∷ [], (s-words ∷ [], tt)))))))))), tt) (w-and-then ! (w-load ! (w-from ! (w-stop !)) (w-look ! 11 refl)) (w-and-then ! (w-load ! (w-from ! (w-stop !)) (w-look ! 10 refl)) (w-and-then ! (w-load ! (w-from ! (w-stop !)) (w-look ! 12 refl)) (w-and-then ! (w-load ! (w-from ! (w-stop !)) (w-look ! 13 refl)) (w-and-then ! (w-load ! (w-from ! (w-stop !)) (w-look ! 14 refl)) (w-and-then ! (w-load ! (w-from ! (w-stop !)) (w-look ! 15 refl)) (w-and-then ! (w-load ! (w-from ! (w-stop !)) (w-look ! 16 refl)) (w-and-then ! (w-load ! (w-from ! (w-stop !)) (w-look ! 19 refl)) (w-and-then ! (w-load ! (w-from ! (w-stop !)) (w-look ! 23 refl)) (w-no-more !)))))))))) (λ r1.
           use1 W (later (some (λ (u′ : ℕ). ((‵ (flft (κ-input-starts) q-input-starts) ⊛ ‵ (flft (κ-input-rows) q-input-rows) ⊛ ‵ (flft (κ-firsts) q-firsts) ⊛ ‵ (flft (κ-starts) q-starts) ⊛ ‵ (flft (κ-rows) q-rows) ⊛ ‵ (flft (ν1-8 ∷ []) fullShare) ⊛ ‵ ftrue) ⊛ ‵ (usize .own u′ (r1 ∷ []))) ⊛ raw (ensured 𝓤 H A f-scan-one.ended (f-scan-one.clauses 𝓤 H A mem run) (κ-input-starts, (κ-input-rows, (κ-firsts, (κ-starts, (κ-rows, (ν1-8 ∷ [], tt)))))) (n, (ns, (ref-input-starts γ-input-starts input-starts, (ref-input-rows γ-input-rows input-rows, (ref-firsts γ-firsts firsts, (ref-starts γ-starts starts, (ref-rows γ-rows rows, (i, (ref-words δ1-8 v-words, tt))))))))) tt u′)))) (id⊢ 𝓤 _) $ w-await ! tt $ w-pick ! (λ u1.
           w-split ! $ w-move ! (1 ∷ []) $ use1 W (some (λ (zs1 : Unit {0} × (Unit {0} × (Unit {0} × (Unit {0} × (Unit {0} × (Unit {0} × (Unit {0} × (Unit {0} × (List ℕ × Unit {0}))))))))). ‵ (lasts f-scan-one.ended (κ-input-starts, (κ-input-rows, (κ-firsts, (κ-starts, (κ-rows, (ν1-8 ∷ [], tt)))))) (n, (ns, (ref-input-starts γ-input-starts input-starts, (ref-input-rows γ-input-rows input-rows, (ref-firsts γ-firsts firsts, (ref-starts γ-starts starts, (ref-rows γ-rows rows, (i, (ref-words δ1-8 v-words, tt))))))))) zs1) ⊛ raw (fact 𝓤 (Scanned (shaped n (input-starts) (input-rows)) n i (v-words) ((zs1 .1 .1 .1 .1 .1 .1 .1 .1 .0)) u1)))) (id⊢ 𝓤 _) $ w-pick ! (λ zs1. w-split ! $ w-move ! (1 ∷ []) $ w-heard ! (Scanned (shaped n (input-starts) (input-rows)) n i (v-words) ((zs1 .1 .1 .1 .1 .1 .1 .1 .1 .0)) u1) (λ d1.
-          w-fsplit ! $ w-drop ! $ w-fsplit ! $ w-drop ! $ w-fsplit ! $ w-drop ! $ w-fsplit ! $ w-drop ! $ w-fsplit ! $ w-drop ! $ w-fsplit ! $ w-drop ! $ w-fsplit ! $ w-drop ! $ w-fsplit ! $ w-drop ! $ w-fsplit ! $ w-fsplit ! $ w-move ! (1 ∷ []) $ w-feqL ! (λ same1-words. w-move ! (1 ∷ []) $ w-drop ! $
+          w-past ! $ w-past ! $ w-past ! $ w-past ! $ w-past ! $ w-past ! $ w-past ! $ w-past ! $ w-last ! (λ same1-words. w-move ! (1 ∷ []) $ w-drop ! $
           w-move ! (1 ∷ []) $ w-split ! $ w-move ! (1 ∷ []) $ w-peeks ! usize (Is usize) (shows 𝓤 H A usize) u1 (r1 ∷ []) (λ is1. w-land ! (w-from ! (w-stop !)) (w-init ! 22 refl (uint-lawful 𝓤 H A W w64 .typed u1 _ is1 .0)) $
-          w-drop ! $ w-split ! $ w-move ! (1 ∷ []) $ w-split ! $ w-move ! (1 ∷ []) $ w-split ! $ w-move ! (1 ∷ []) $ w-split ! $ w-move ! (1 ∷ []) $ w-split ! $ w-move ! (1 ∷ []) $ w-split ! $ w-lft-end ! tt $ w-move ! (0 ∷ 8 ∷ 7 ∷ []) $ use3 W (later (‵ (MutSlice (named 5) κ-words usize .own (ref-words γ-words (zs1 .1 .1 .1 .1 .1 .1 .1 .1 .0)) (sliceVal (b-words, o-words) (length v-words) ∷ [])) ⊛ ‵ (flft κ-words q-words))) (comes-back usize κ-words (ν1-8 ∷ []) q-words γ-words b-words o-words 𝓤 H A W (named 5) (named 5) v-words δ1-8 (zs1 .1 .1 .1 .1 .1 .1 .1 .1 .0) (subst (Room usize) (sym len-words) room-words) same1-words) $ w-await ! tt $ w-split ! $
-          w-rewrite ! 0 (λ (m : ℕ). ‵ (MutSlice (named 5) κ-words usize .own (ref-words γ-words (zs1 .1 .1 .1 .1 .1 .1 .1 .1 .0)) (sliceVal (b-words, o-words) m ∷ []))) len-words refl $
+          w-drop ! $ w-split ! $ w-move ! (1 ∷ []) $ w-split ! $ w-move ! (1 ∷ []) $ w-split ! $ w-move ! (1 ∷ []) $ w-split ! $ w-move ! (1 ∷ []) $ w-split ! $ w-move ! (1 ∷ 7 ∷ 6 ∷ []) $ w-back ! tt usize κ-words q-words γ-words b-words o-words (named 5) (named 5) v-words (length words) len-words ν1-8 δ1-8 (zs1 .1 .1 .1 .1 .1 .1 .1 .1 .0) room-words same1-words $
           w-move ! (2 ∷ []) $ w-drop ! $
           w-forget ! 27 refl $ w-forget ! 28 refl $ w-assigns ! (w-addr ! (w-from ! (w-fld ! refl (w-hop ! (w-look-in ! 22 (w-sub ! 0 refl (w-whole !))) (w-stop !))))) (w-from ! (w-stop !)) (w-init ! 30 refl (tt, tt)) $ w-assigns ! (w-agg ! (w-and-then ! (w-load ! (w-from ! (w-stop !)) (w-look ! 30 refl)) (w-and-then ! (w-load ! (w-from ! (w-fld ! refl (w-stop !))) (w-look-in ! 22 (w-sub ! 1 refl (w-whole !)))) (w-no-more !)))) (w-from ! (w-stop !)) (w-init ! 31 refl (tt, (tt, (record { fits = room-words .0 }, tt)))) $
-          w-rewrite ! 31 (λ (m : ℕ). ‵ (fat fullShare ty17 l17 0 (sliceVal (b-words, o-words) m))) (sym (same1-words ∙ len-words)) refl $
           w-assigns ! (w-addr ! (w-from ! (w-fld ! refl (w-hop ! (w-look-in ! 23 (w-sub ! 0 refl (w-whole !))) (w-stop !))))) (w-from ! (w-stop !)) (w-init ! 32 refl (tt, tt)) $ w-assigns ! (w-agg ! (w-and-then ! (w-load ! (w-from ! (w-stop !)) (w-look ! 32 refl)) (w-and-then ! (w-load ! (w-from ! (w-fld ! refl (w-stop !))) (w-look-in ! 23 (w-sub ! 1 refl (w-whole !)))) (w-no-more !)))) (w-from ! (w-stop !)) (w-init ! 33 refl (tt, (tt, (record { fits = room-us .0 }, tt)))) $
-          w-rewrite ! 33 (λ (m : ℕ). ‵ (fat fullShare ty19 l19 0 (sliceVal (b-us, o-us) m))) (sym len-us) refl $
-          w-lft-new ! tt (λ ν2-3. w-rewrite ! 1 (λ (m : ℕ). ‵ (MutSlice (named 5) κ-words usize .own (ref-words γ-words (zs1 .1 .1 .1 .1 .1 .1 .1 .1 .0)) (sliceVal (b-words, o-words) m ∷ []))) (sym (same1-words ∙ len-words)) refl $ w-move ! (1 ∷ 2 ∷ []) $ use2 W (later (some (λ (δ : GName). ‵ (ShrSlice (named 0) (ν2-3 ∷ []) usize .own (ref-words δ (zs1 .1 .1 .1 .1 .1 .1 .1 .1 .0)) (sliceVal (b-words, o-words) (length (zs1 .1 .1 .1 .1 .1 .1 .1 .1 .0)) ∷ [])) ⊛ ‵ (LentShared usize κ-words (ν2-3 ∷ []) q-words γ-words b-words o-words (zs1 .1 .1 .1 .1 .1 .1 .1 .1 .0))))) (lends-shared usize κ-words (ν2-3 ∷ []) q-words γ-words b-words o-words 𝓤 H A W (named 5) (named 0) (zs1 .1 .1 .1 .1 .1 .1 .1 .1 .0)) $ w-await ! tt $ w-pick ! (λ δ2-3. w-split ! $
-          w-lft-new ! tt (λ ν2-4. w-rewrite ! 14 (λ (m : ℕ). ‵ (MutSlice (named 6) κ-us T-Update.the-row .own (ref-us γ-us v-us) (sliceVal (b-us, o-us) m ∷ []))) (sym len-us) refl $ w-move ! (14 ∷ 15 ∷ []) $ use2 W (later (some (λ (δ : GName). ‵ (MutSlice (named 1) (ν2-4 ∷ []) T-Update.the-row .own (ref-us δ v-us) (sliceVal (b-us, o-us) (length v-us) ∷ [])) ⊛ ‵ (LentAgain T-Update.the-row κ-us (ν2-4 ∷ []) q-us γ-us b-us o-us δ v-us)))) (lends-again T-Update.the-row κ-us (ν2-4 ∷ []) q-us γ-us b-us o-us 𝓤 H A W (named 6) (named 1) v-us) $ w-await ! tt $ w-pick ! (λ δ2-4. w-split ! $
+          w-show ! tt usize κ-words q-words γ-words b-words o-words (named 5) (named 0) (zs1 .1 .1 .1 .1 .1 .1 .1 .1 .0) (length words) (same1-words ∙ len-words) (λ ν2-3 δ2-3.
+          w-move ! (13 ∷ 14 ∷ []) $ w-lend ! tt T-Update.the-row κ-us q-us γ-us b-us o-us (named 6) (named 1) v-us (length us) len-us (λ ν2-4 δ2-4.
           w-nothing ! $ w-move ! (1 ∷ 0 ∷ []) $ w-fjoin ! $ w-move ! (3 ∷ 0 ∷ []) $ w-fjoin ! $ w-owned ! usize (Is usize) (uint-makes 𝓤 H A W w64) n _ ((refl, fits-n)) $ w-fjoin ! $ w-owned ! usize (Is usize) (uint-makes 𝓤 H A W w64) u1 _ is1 $ w-fjoin ! $ w-owned ! usize (Is usize) (uint-makes 𝓤 H A W w64) i _ ((refl, fits-turn)) $ w-fjoin ! $
           w-nothing ! $ w-move ! (3 ∷ 0 ∷ []) $ w-join ! $ w-move ! (4 ∷ 0 ∷ []) $ w-join ! $
-          use2 W (raw (C-write-one 𝓤 H A mem run .pre (((ν2-3 ∷ [], (ν2-4 ∷ [], tt)), (fullShare, (fullShare, tt)), tt, (i, (u1, (n, (ref-words δ2-3 (zs1 .1 .1 .1 .1 .1 .1 .1 .1 .0), (ref-us δ2-4 v-us, tt))))), (vint w64 i ∷ [], (r1 ∷ [], (vint w64 n ∷ [], (sliceVal (b-words, o-words) (length (zs1 .1 .1 .1 .1 .1 .1 .1 .1 .0)) ∷ [], (sliceVal (b-us, o-us) (length v-us) ∷ [], tt)))))), tt))) (asked2 i v-words v-us len-words len-us kept small u1 r1 is1 (zs1 .1 .1 .1 .1 .1 .1 .1 .1 .0) d1 same1-words ν2-3 δ2-3 ν2-4 δ2-4) $
-          w-calls-at ! fm (C-write-one 𝓤 H A mem run) known-write-one (((ν2-3 ∷ [], (ν2-4 ∷ [], tt)), (fullShare, (fullShare, tt)), tt, (i, (u1, (n, (ref-words δ2-3 (zs1 .1 .1 .1 .1 .1 .1 .1 .1 .0), (ref-us δ2-4 v-us, tt))))), (vint w64 i ∷ [], (r1 ∷ [], (vint w64 n ∷ [], (sliceVal (b-words, o-words) (length (zs1 .1 .1 .1 .1 .1 .1 .1 .1 .0)) ∷ [], (sliceVal (b-us, o-us) (length v-us) ∷ [], tt)))))), tt) (w-and-then ! (w-load ! (w-from ! (w-stop !)) (w-look ! 23 refl)) (w-and-then ! (w-load ! (w-from ! (w-stop !)) (w-look ! 24 refl)) (w-and-then ! (w-load ! (w-from ! (w-stop !)) (w-look ! 15 refl)) (w-and-then ! (w-load ! (w-from ! (w-stop !)) (w-look ! 30 refl)) (w-and-then ! (w-load ! (w-from ! (w-stop !)) (w-look ! 32 refl)) (w-no-more !)))))) (λ r2.
+          use2 W (raw (C-write-one 𝓤 H A mem run .pre (((ν2-3 ∷ [], (ν2-4 ∷ [], tt)), (fullShare, (fullShare, tt)), tt, (i, (u1, (n, (ref-words δ2-3 (zs1 .1 .1 .1 .1 .1 .1 .1 .1 .0), (ref-us δ2-4 v-us, tt))))), (vint w64 i ∷ [], (r1 ∷ [], (vint w64 n ∷ [], (s-words ∷ [], (s-us ∷ [], tt)))))), tt))) (asked2 i v-words v-us len-words len-us kept small u1 r1 is1 (zs1 .1 .1 .1 .1 .1 .1 .1 .1 .0) d1 same1-words ν2-3 δ2-3 ν2-4 δ2-4) $
+          w-calls-at ! fm (C-write-one 𝓤 H A mem run) known-write-one (((ν2-3 ∷ [], (ν2-4 ∷ [], tt)), (fullShare, (fullShare, tt)), tt, (i, (u1, (n, (ref-words δ2-3 (zs1 .1 .1 .1 .1 .1 .1 .1 .1 .0), (ref-us δ2-4 v-us, tt))))), (vint w64 i ∷ [], (r1 ∷ [], (vint w64 n ∷ [], (s-words ∷ [], (s-us ∷ [], tt)))))), tt) (w-and-then ! (w-load ! (w-from ! (w-stop !)) (w-look ! 23 refl)) (w-and-then ! (w-load ! (w-from ! (w-stop !)) (w-look ! 24 refl)) (w-and-then ! (w-load ! (w-from ! (w-stop !)) (w-look ! 15 refl)) (w-and-then ! (w-load ! (w-from ! (w-stop !)) (w-look ! 30 refl)) (w-and-then ! (w-load ! (w-from ! (w-stop !)) (w-look ! 32 refl)) (w-no-more !)))))) (λ r2.
           use1 W (later (some (λ (u′ : Unit {0}). ((‵ (flft (ν2-3 ∷ []) fullShare) ⊛ ‵ (flft (ν2-4 ∷ []) fullShare) ⊛ ‵ ftrue) ⊛ ‵ (Nothing .own u′ (r2 ∷ []))) ⊛ raw (ensured 𝓤 H A f-write-one.ended (f-write-one.clauses 𝓤 H A mem run) (ν2-3 ∷ [], (ν2-4 ∷ [], tt)) (i, (u1, (n, (ref-words δ2-3 (zs1 .1 .1 .1 .1 .1 .1 .1 .1 .0), (ref-us δ2-4 v-us, tt))))) tt u′)))) (id⊢ 𝓤 _) $ w-await ! tt $ w-pick ! (λ u2.
           w-split ! $ w-move ! (1 ∷ []) $ use1 W (some (λ (zs2 : Unit {0} × (Unit {0} × (Unit {0} × (Unit {0} × (List Update × Unit {0}))))). ‵ (lasts f-write-one.ended (ν2-3 ∷ [], (ν2-4 ∷ [], tt)) (i, (u1, (n, (ref-words δ2-3 (zs1 .1 .1 .1 .1 .1 .1 .1 .1 .0), (ref-us δ2-4 v-us, tt))))) zs2) ⊛ raw (fact 𝓤 ((zs2 .1 .1 .1 .1 .0) ≡ written i u1 (drop (updatesAt n) ((zs1 .1 .1 .1 .1 .1 .1 .1 .1 .0))) (v-us))))) (id⊢ 𝓤 _) $ w-pick ! (λ zs2. w-split ! $ w-move ! (1 ∷ []) $ w-heard ! ((zs2 .1 .1 .1 .1 .0) ≡ written i u1 (drop (updatesAt n) ((zs1 .1 .1 .1 .1 .1 .1 .1 .1 .0))) (v-us)) (λ d2.
-          w-fsplit ! $ w-drop ! $ w-fsplit ! $ w-drop ! $ w-fsplit ! $ w-drop ! $ w-fsplit ! $ w-drop ! $ w-fsplit ! $ w-fsplit ! $ w-move ! (1 ∷ []) $ w-feqL ! (λ same2-us. w-move ! (1 ∷ []) $ w-drop ! $
+          w-past ! $ w-past ! $ w-past ! $ w-past ! $ w-last ! (λ same2-us. w-move ! (1 ∷ []) $ w-drop ! $
           w-move ! (1 ∷ []) $ w-split ! $ w-move ! (1 ∷ []) $ w-peeks ! Nothing (Is Nothing) (shows 𝓤 H A Nothing) u2 (r2 ∷ []) (λ is2. w-land ! (w-from ! (w-stop !)) (w-init ! 30 refl (nothing-lawful 𝓤 H A W .typed u2 _ is2 .0)) $
-          w-drop ! $ w-split ! $ w-lft-end ! tt $ w-move ! (0 ∷ 4 ∷ []) $ use2 W (later (‵ (MutSlice (named 5) κ-words usize .own (ref-words γ-words (zs1 .1 .1 .1 .1 .1 .1 .1 .1 .0)) (sliceVal (b-words, o-words) (length (zs1 .1 .1 .1 .1 .1 .1 .1 .1 .0)) ∷ [])) ⊛ ‵ (flft κ-words q-words))) (shared-back usize κ-words (ν2-3 ∷ []) q-words γ-words b-words o-words 𝓤 H A W (named 5) (named 0) (zs1 .1 .1 .1 .1 .1 .1 .1 .1 .0) (subst (Room usize) (sym (same1-words ∙ len-words)) room-words)) $ w-await ! tt $ w-split ! $
-          w-rewrite ! 0 (λ (m : ℕ). ‵ (MutSlice (named 5) κ-words usize .own (ref-words γ-words (zs1 .1 .1 .1 .1 .1 .1 .1 .1 .0)) (sliceVal (b-words, o-words) m ∷ []))) (same1-words ∙ len-words) refl $
-          w-move ! (2 ∷ []) $ w-split ! $ w-lft-end ! tt $ w-move ! (0 ∷ 5 ∷ 4 ∷ []) $ use3 W (later (‵ (MutSlice (named 6) κ-us T-Update.the-row .own (ref-us γ-us (zs2 .1 .1 .1 .1 .0)) (sliceVal (b-us, o-us) (length v-us) ∷ [])) ⊛ ‵ (flft κ-us q-us))) (comes-back T-Update.the-row κ-us (ν2-4 ∷ []) q-us γ-us b-us o-us 𝓤 H A W (named 6) (named 1) v-us δ2-4 (zs2 .1 .1 .1 .1 .0) (subst (Room T-Update.the-row) (sym len-us) room-us) same2-us) $ w-await ! tt $ w-split ! $
-          w-rewrite ! 0 (λ (m : ℕ). ‵ (MutSlice (named 6) κ-us T-Update.the-row .own (ref-us γ-us (zs2 .1 .1 .1 .1 .0)) (sliceVal (b-us, o-us) m ∷ []))) len-us refl $
+          w-drop ! $ w-move ! (0 ∷ 3 ∷ []) $ w-shown ! tt usize κ-words q-words γ-words b-words o-words (named 5) (named 0) (zs1 .1 .1 .1 .1 .1 .1 .1 .1 .0) (length words) (same1-words ∙ len-words) ν2-3 room-words $
+          w-move ! (2 ∷ 4 ∷ 3 ∷ []) $ w-back ! tt T-Update.the-row κ-us q-us γ-us b-us o-us (named 6) (named 1) v-us (length us) len-us ν2-4 δ2-4 (zs2 .1 .1 .1 .1 .0) room-us same2-us $
           w-move ! (2 ∷ []) $ w-drop ! $
           w-forget ! 29 refl $ w-forget ! 30 refl $ w-forget ! 31 refl $ w-forget ! 32 refl $ w-forget ! 33 refl $ w-assigns-last ! (w-bin ! (w-load ! (w-from ! (w-stop !)) (w-look ! 24 refl)) (w-lit ! tt) (record { fits = next-fits })) (w-from ! (w-stop !)) (w-store ! 24 refl (tt, record { fits = next-fits })) $
           w-forget ! 25 refl $ w-forget ! 26 refl $ w-rewrite ! 24 (λ (j : ℕ). ‵ (fat fullShare ty10 l10 0 (vint w64 j))) (add-one i) refl $
-          w-keep ! (13 ∷ 12 ∷ 11 ∷ 10 ∷ 9 ∷ 2 ∷ 0 ∷ 8 ∷ 7 ∷ 6 ∷ 5 ∷ 4 ∷ 3 ∷ 1 ∷ 14 ∷ 15 ∷ 16 ∷ 17 ∷ 18 ∷ 19 ∷ 20 ∷ 21 ∷ 22 ∷ 23 ∷ 24 ∷ 25 ∷ 26 ∷ 27 ∷ 28 ∷ 29 ∷ 30 ∷ 31 ∷ 32 ∷ 33 ∷ 34 ∷ []) $ w-by ! (k (zs1 .1 .1 .1 .1 .1 .1 .1 .1 .0) (zs2 .1 .1 .1 .1 .0) (same1-words ∙ len-words) (same2-us ∙ len-us) (again i v-words v-us len-words len-us kept small u1 r1 is1 (zs1 .1 .1 .1 .1 .1 .1 .1 .1 .0) d1 same1-words (zs2 .1 .1 .1 .1 .0) d2 same2-us))))))))))))))))))))
+          w-keep ! (13 ∷ 12 ∷ 11 ∷ 10 ∷ 9 ∷ 2 ∷ 0 ∷ 8 ∷ 7 ∷ 6 ∷ 5 ∷ 4 ∷ 3 ∷ 1 ∷ 14 ∷ 15 ∷ 16 ∷ 17 ∷ 18 ∷ 19 ∷ 20 ∷ 21 ∷ 22 ∷ 23 ∷ 24 ∷ 25 ∷ 26 ∷ 27 ∷ 28 ∷ 29 ∷ 30 ∷ 31 ∷ 32 ∷ 33 ∷ 34 ∷ []) $ w-by ! (k (zs1 .1 .1 .1 .1 .1 .1 .1 .1 .0) (zs2 .1 .1 .1 .1 .0) (same1-words ∙ len-words) (same2-us ∙ len-us) (again i v-words v-us len-words len-us kept small u1 r1 is1 (zs1 .1 .1 .1 .1 .1 .1 .1 .1 .0) d1 same1-words (zs2 .1 .1 .1 .1 .0) d2 same2-us)))))))))))))))))
 
       left : (v-words : List ℕ) (v-us : List Update) (len-words : length v-words ≡ length words) (len-us : length v-us ≡ length us) (kept : Writing n ns input-starts input-rows words v-words us v-us ns) (X : SProp 𝓤) → ent 𝓤 (⋆ 𝓤 H A (At ns v-words v-us)) (Wp 𝓤 H C Λ En body.turn-1 (afterTurn 𝓤 H X Left))
       unfolding afterTurn

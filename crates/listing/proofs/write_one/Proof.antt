@@ -43,10 +43,9 @@ use prog.Routine.{Routine}
 use prog.Wp.{Calls, Env, Heap, Loops, Out, Tables, Wp, WpFn, afterBlock, afterSeq, afterTurn, atReturn}
 use sound.Loop.{loop-rule}
 use sound.WpLaws.{FmC, WpFn-mono, fmOf}
-use types.Kit.{ !, Given, Item, _$_, _∵_, _⊛_, anyQ, atRet, await as w-await, by as w-by, done, drop as w-drop, feqI as w-feqI, feqL as w-feqL, fjoin as w-fjoin, frame as w-frame, fsplit as w-fsplit, join as w-join, keep as w-keep, later, move as w-move, pick as w-pick, qed, raw, rewrite as w-rewrite, some, split as w-split, suffices as w-suffices, use1, use2, use3, ‵, ⋆}
+use types.Kit.{ !, Given, Item, _$_, _∵_, _⊛_, anyQ, atRet, await as w-await, by as w-by, done, drop as w-drop, feqI as w-feqI, fjoin as w-fjoin, frame as w-frame, fsplit as w-fsplit, join as w-join, keep as w-keep, later, move as w-move, pick as w-pick, qed, raw, rewrite as w-rewrite, some, split as w-split, suffices as w-suffices, use1, use2, ‵, ⋆}
 use types.Part.{agg as w-agg, look-in as w-look-in, sub as w-sub, whole as w-whole}
 use types.Run.{addr as w-addr, alloc0 as w-alloc0, alloc1 as w-alloc1, and-then as w-and-then, assigns as w-assigns, assigns-last as w-assigns-last, bin as w-bin, enter as w-enter, exec as w-exec, fld as w-fld, forget as w-forget, from as w-from, hop as w-hop, init as w-init, land as w-land, leaves-loop as w-leaves-loop, lit as w-lit, load as w-load, look as w-look, no-more as w-no-more, of-opd as w-of-opd, params1 as w-params1, pass0 as w-pass0, pass1 as w-pass1, returns as w-returns, stays as w-stays, stop as w-stop, store as w-store, unit-lit as w-unit-lit}
-use types.Tokens.{lft-end as w-lft-end, lft-new as w-lft-new}
 use denote.Struct.Laws as LL
 use Rattle.statement.specs.declared.Update.{Update}
 use Rattle.statement.proofs.Update as T-Update
@@ -63,8 +62,8 @@ use Rattle.update.proofs.put_update as f-put-update
 use Rattle.update.proofs.put_update.Symbol as def-put-update
 use Rattle.update.proofs.put_update.Symbol.{name as #update·put-update}
 use Rattle.update.proofs.put_update.Met as thm-put-update
-use Rattle.update.proofs.Packs.{Packed, pack as w-pack, unpack as w-unpack, homes-freed as w-homes-freed}
-use Rattle.update.proofs.Again.{LentAgain, lends-again, comes-back}
+use Rattle.update.proofs.Packs.{Packed, pack as w-pack, unpack as w-unpack, written as w-written, homes-freed as w-homes-freed}
+use Rattle.update.proofs.Lending.{lend as w-lend, back as w-back, last as w-last, past as w-past}
 use Rattle.listing.proofs.write_one.Key.{name as #listing·write-one}
 use Rattle.listing.proofs.write_one as here
 use Rattle.listing.proofs.write_one.Statement as stated
@@ -167,17 +166,17 @@ module _ {M : Type 1} (𝓤 : URA M) (H : Heap 𝓤) (A : Atoms 𝓤) (W : Given
     abbrev fm : FmC 𝓤 H (W .laws) (𝓣 .C)
     fm = fmOf 𝓤 H (W .laws) 𝓣
 
-    asked1 : (i : ℕ) (v-us : List Update) (len-us : length v-us ≡ length us) (kept : v-us ≡ written source i (drop (updatesAt n) words) us) (small : i < c) → ent 𝓤 (onEntry 𝓤 H A f-place-at.signature (κ-words, tt) (q-words, tt) (i, (n, (ref-words γ-words words, tt))) (vint w64 i ∷ [], (vint w64 n ∷ [], (sliceVal (b-words, o-words) (length words) ∷ [], tt)))) (C-place-at 𝓤 H A mem run .pre (((κ-words, tt), (q-words, tt), tt, (i, (n, (ref-words γ-words words, tt))), (vint w64 i ∷ [], (vint w64 n ∷ [], (sliceVal (b-words, o-words) (length words) ∷ [], tt)))), tt))
+    asked1 : (i : ℕ) (v-us : List Update) (len-us : length v-us ≡ length us) (kept : v-us ≡ written source i (drop (updatesAt n) words) us) (small : i < c) → ent 𝓤 (onEntry 𝓤 H A f-place-at.signature (κ-words, tt) (q-words, tt) (i, (n, (ref-words γ-words words, tt))) (vint w64 i ∷ [], (vint w64 n ∷ [], (s-words ∷ [], tt)))) (C-place-at 𝓤 H A mem run .pre (((κ-words, tt), (q-words, tt), tt, (i, (n, (ref-words γ-words words, tt))), (vint w64 i ∷ [], (vint w64 n ∷ [], (s-words ∷ [], tt)))), tt))
     asked1 i v-us len-us kept small =
-        let need : (i < n) × (offsetsAt n ≤ length (words)) = (omega (arith, small, pre .few), pre .room) in qed W ((‵ (flft (κ-words) q-words) ⊛ ‵ ftrue) ∷ ‵ (owns (usize ∷ usize ∷ ShrSlice (named 0) (κ-words) usize ∷ []) (i, (n, (ref-words γ-words words, tt))) (vint w64 i ∷ [], (vint w64 n ∷ [], (sliceVal (b-words, o-words) (length words) ∷ [], tt)))) ∷ []) ∵ w-says ! need $ w-frame ! $ done !
+        let need : (i < n) × (offsetsAt n ≤ length (words)) = (omega (arith, small, pre .few), pre .room) in qed W ((‵ (flft (κ-words) q-words) ⊛ ‵ ftrue) ∷ ‵ (owns (usize ∷ usize ∷ ShrSlice (named 0) (κ-words) usize ∷ []) (i, (n, (ref-words γ-words words, tt))) (vint w64 i ∷ [], (vint w64 n ∷ [], (s-words ∷ [], tt)))) ∷ []) ∵ w-says ! need $ w-frame ! $ done !
 
-    asked2 : (i : ℕ) (v-us : List Update) (len-us : length v-us ≡ length us) (kept : v-us ≡ written source i (drop (updatesAt n) words) us) (small : i < c) (u1 : ℕ) (r1 : Val) (is1 : Is usize u1 (r1 ∷ [])) (d1 : u1 ≡ getD (drop (updatesAt n) (words)) (3 * i) 0) → ent 𝓤 (onEntry 𝓤 H A f-update-of.signature (κ-words, tt) (q-words, tt) (source, (i, (n, (ref-words γ-words words, tt)))) (vint w64 source ∷ [], (vint w64 i ∷ [], (vint w64 n ∷ [], (sliceVal (b-words, o-words) (length words) ∷ [], tt))))) (C-update-of 𝓤 H A mem run .pre (((κ-words, tt), (q-words, tt), tt, (source, (i, (n, (ref-words γ-words words, tt)))), (vint w64 source ∷ [], (vint w64 i ∷ [], (vint w64 n ∷ [], (sliceVal (b-words, o-words) (length words) ∷ [], tt))))), tt))
+    asked2 : (i : ℕ) (v-us : List Update) (len-us : length v-us ≡ length us) (kept : v-us ≡ written source i (drop (updatesAt n) words) us) (small : i < c) (u1 : ℕ) (r1 : Val) (is1 : Is usize u1 (r1 ∷ [])) (d1 : u1 ≡ getD (drop (updatesAt n) (words)) (3 * i) 0) → ent 𝓤 (onEntry 𝓤 H A f-update-of.signature (κ-words, tt) (q-words, tt) (source, (i, (n, (ref-words γ-words words, tt)))) (vint w64 source ∷ [], (vint w64 i ∷ [], (vint w64 n ∷ [], (s-words ∷ [], tt))))) (C-update-of 𝓤 H A mem run .pre (((κ-words, tt), (q-words, tt), tt, (source, (i, (n, (ref-words γ-words words, tt)))), (vint w64 source ∷ [], (vint w64 i ∷ [], (vint w64 n ∷ [], (s-words ∷ [], tt))))), tt))
     asked2 i v-us len-us kept small u1 r1 is1 d1 =
-        let need : (i < n) × (offsetsAt n ≤ length (words)) = (omega (arith, small, pre .few), pre .room) in qed W ((‵ (flft (κ-words) q-words) ⊛ ‵ ftrue) ∷ ‵ (owns (usize ∷ usize ∷ usize ∷ ShrSlice (named 0) (κ-words) usize ∷ []) (source, (i, (n, (ref-words γ-words words, tt)))) (vint w64 source ∷ [], (vint w64 i ∷ [], (vint w64 n ∷ [], (sliceVal (b-words, o-words) (length words) ∷ [], tt))))) ∷ []) ∵ w-says ! need $ w-frame ! $ done !
+        let need : (i < n) × (offsetsAt n ≤ length (words)) = (omega (arith, small, pre .few), pre .room) in qed W ((‵ (flft (κ-words) q-words) ⊛ ‵ ftrue) ∷ ‵ (owns (usize ∷ usize ∷ usize ∷ ShrSlice (named 0) (κ-words) usize ∷ []) (source, (i, (n, (ref-words γ-words words, tt)))) (vint w64 source ∷ [], (vint w64 i ∷ [], (vint w64 n ∷ [], (s-words ∷ [], tt))))) ∷ []) ∵ w-says ! need $ w-frame ! $ done !
 
-    asked3 : (i : ℕ) (v-us : List Update) (len-us : length v-us ≡ length us) (kept : v-us ≡ written source i (drop (updatesAt n) words) us) (small : i < c) (u1 : ℕ) (r1 : Val) (is1 : Is usize u1 (r1 ∷ [])) (d1 : u1 ≡ getD (drop (updatesAt n) (words)) (3 * i) 0) (u2 : Update) (r2 : Val) (is2 : Is T-Update.the-row u2 (r2 ∷ [])) (d2 : u2 ≡ said source (drop (updatesAt n) (words)) i) (ν3-0 : ℕ) (δ3-0 : GName) → ent 𝓤 (onEntry 𝓤 H A f-put-update.signature (ν3-0 ∷ [], tt) (fullShare, tt) (ref-us δ3-0 v-us, (u1, (u2, tt))) (sliceVal (b-us, o-us) (length v-us) ∷ [], (r1 ∷ [], (r2 ∷ [], tt)))) (C-put-update 𝓤 H A mem run .pre (((ν3-0 ∷ [], tt), (fullShare, tt), tt, (ref-us δ3-0 v-us, (u1, (u2, tt))), (sliceVal (b-us, o-us) (length v-us) ∷ [], (r1 ∷ [], (r2 ∷ [], tt)))), tt))
+    asked3 : (i : ℕ) (v-us : List Update) (len-us : length v-us ≡ length us) (kept : v-us ≡ written source i (drop (updatesAt n) words) us) (small : i < c) (u1 : ℕ) (r1 : Val) (is1 : Is usize u1 (r1 ∷ [])) (d1 : u1 ≡ getD (drop (updatesAt n) (words)) (3 * i) 0) (u2 : Update) (r2 : Val) (is2 : Is T-Update.the-row u2 (r2 ∷ [])) (d2 : u2 ≡ said source (drop (updatesAt n) (words)) i) (ν3-0 : ℕ) (δ3-0 : GName) → ent 𝓤 (onEntry 𝓤 H A f-put-update.signature (ν3-0 ∷ [], tt) (fullShare, tt) (ref-us δ3-0 v-us, (u1, (u2, tt))) (s-us ∷ [], (r1 ∷ [], (r2 ∷ [], tt)))) (C-put-update 𝓤 H A mem run .pre (((ν3-0 ∷ [], tt), (fullShare, tt), tt, (ref-us δ3-0 v-us, (u1, (u2, tt))), (s-us ∷ [], (r1 ∷ [], (r2 ∷ [], tt)))), tt))
     asked3 i v-us len-us kept small u1 r1 is1 d1 u2 r2 is2 d2 ν3-0 δ3-0 =
-        let need : u1 < length (v-us) = omega (arith, d1, len-us, pre .inside i small) in qed W ((‵ (flft (ν3-0 ∷ []) fullShare) ⊛ ‵ ftrue) ∷ ‵ (owns (MutSlice (named 0) (ν3-0 ∷ []) T-Update.the-row ∷ usize ∷ T-Update.the-row ∷ []) (ref-us δ3-0 v-us, (u1, (u2, tt))) (sliceVal (b-us, o-us) (length v-us) ∷ [], (r1 ∷ [], (r2 ∷ [], tt)))) ∷ []) ∵ w-says ! need $ w-frame ! $ done !
+        let need : u1 < length (v-us) = omega (arith, d1, len-us, pre .inside i small) in qed W ((‵ (flft (ν3-0 ∷ []) fullShare) ⊛ ‵ ftrue) ∷ ‵ (owns (MutSlice (named 0) (ν3-0 ∷ []) T-Update.the-row ∷ usize ∷ T-Update.the-row ∷ []) (ref-us δ3-0 v-us, (u1, (u2, tt))) (s-us ∷ [], (r1 ∷ [], (r2 ∷ [], tt)))) ∷ []) ∵ w-says ! need $ w-frame ! $ done !
 
     again : (i : ℕ) (v-us : List Update) (len-us : length v-us ≡ length us) (kept : v-us ≡ written source i (drop (updatesAt n) words) us) (small : i < c) (u1 : ℕ) (r1 : Val) (is1 : Is usize u1 (r1 ∷ [])) (d1 : u1 ≡ getD (drop (updatesAt n) (words)) (3 * i) 0) (u2 : Update) (r2 : Val) (is2 : Is T-Update.the-row u2 (r2 ∷ [])) (d2 : u2 ≡ said source (drop (updatesAt n) (words)) i) (c3-us : List Update) (d3 : c3-us ≡ set (v-us) u1 u2) (same3-us : length c3-us ≡ length v-us) → c3-us ≡ written source (suc i) (drop (updatesAt n) words) us
     again i v-us len-us kept small u1 r1 is1 d1 u2 r2 is2 d2 c3-us d3 same3-us = written-next source i (drop (updatesAt n) words) us kept d1 d2 d3
@@ -215,40 +214,38 @@ module _ {M : Type 1} (𝓤 : URA M) (H : Heap 𝓤) (A : Atoms 𝓤) (W : Given
           use1 W (‵ (ShrSlice (named 0) κ-words usize .own (ref-words γ-words words) (sliceVal (b-words, o-words) (length words) ∷ [])) ⊛ ‵ (ShrSlice (named 0) κ-words usize .own (ref-words γ-words words) (sliceVal (b-words, o-words) (length words) ∷ []))) (shr-slice-copy 𝓤 H A W (named 0) κ-words usize .twice (ref-words γ-words words) (s-words ∷ [])) $ w-split ! $
           w-nothing ! $ w-move ! (1 ∷ 0 ∷ []) $ w-fjoin ! $ w-owned ! usize (Is usize) (uint-makes 𝓤 H A W w64) n _ ((refl, fits-n)) $ w-fjoin ! $ w-owned ! usize (Is usize) (uint-makes 𝓤 H A W w64) i _ ((refl, fits-turn)) $ w-fjoin ! $
           w-nothing ! $ w-move ! (4 ∷ 0 ∷ []) $ w-join ! $
-          use2 W (raw (C-place-at 𝓤 H A mem run .pre (((κ-words, tt), (q-words, tt), tt, (i, (n, (ref-words γ-words words, tt))), (vint w64 i ∷ [], (vint w64 n ∷ [], (sliceVal (b-words, o-words) (length words) ∷ [], tt)))), tt))) (asked1 i v-us len-us kept small) $
-          w-calls-at ! fm (C-place-at 𝓤 H A mem run) known-place-at (((κ-words, tt), (q-words, tt), tt, (i, (n, (ref-words γ-words words, tt))), (vint w64 i ∷ [], (vint w64 n ∷ [], (sliceVal (b-words, o-words) (length words) ∷ [], tt)))), tt) (w-and-then ! (w-load ! (w-from ! (w-stop !)) (w-look ! 10 refl)) (w-and-then ! (w-load ! (w-from ! (w-stop !)) (w-look ! 7 refl)) (w-and-then ! (w-load ! (w-from ! (w-stop !)) (w-look ! 8 refl)) (w-no-more !)))) (λ r1.
+          use2 W (raw (C-place-at 𝓤 H A mem run .pre (((κ-words, tt), (q-words, tt), tt, (i, (n, (ref-words γ-words words, tt))), (vint w64 i ∷ [], (vint w64 n ∷ [], (s-words ∷ [], tt)))), tt))) (asked1 i v-us len-us kept small) $
+          w-calls-at ! fm (C-place-at 𝓤 H A mem run) known-place-at (((κ-words, tt), (q-words, tt), tt, (i, (n, (ref-words γ-words words, tt))), (vint w64 i ∷ [], (vint w64 n ∷ [], (s-words ∷ [], tt)))), tt) (w-and-then ! (w-load ! (w-from ! (w-stop !)) (w-look ! 10 refl)) (w-and-then ! (w-load ! (w-from ! (w-stop !)) (w-look ! 7 refl)) (w-and-then ! (w-load ! (w-from ! (w-stop !)) (w-look ! 8 refl)) (w-no-more !)))) (λ r1.
           use1 W (later (some (λ (u′ : ℕ). ((‵ (flft (κ-words) q-words) ⊛ ‵ ftrue) ⊛ ‵ (usize .own u′ (r1 ∷ []))) ⊛ raw (ensured 𝓤 H A f-place-at.ended (f-place-at.clauses 𝓤 H A mem run) (κ-words, tt) (i, (n, (ref-words γ-words words, tt))) tt u′)))) (id⊢ 𝓤 _) $ w-await ! tt $ w-pick ! (λ u1.
           w-split ! $ w-move ! (1 ∷ []) $ use1 W (some (λ (zs1 : Unit {0} × (Unit {0} × (Unit {0} × Unit {0}))). ‵ (lasts f-place-at.ended (κ-words, tt) (i, (n, (ref-words γ-words words, tt))) zs1) ⊛ raw (fact 𝓤 (u1 ≡ getD (drop (updatesAt n) (words)) (3 * i) 0)))) (id⊢ 𝓤 _) $ w-pick ! (λ zs1. w-split ! $ w-move ! (1 ∷ []) $ w-heard ! (u1 ≡ getD (drop (updatesAt n) (words)) (3 * i) 0) (λ d1.
-          w-fsplit ! $ w-drop ! $ w-fsplit ! $ w-drop ! $ w-fsplit ! $ w-drop ! $ w-drop ! $
+          w-past ! $ w-past ! $ w-past ! $ w-drop ! $
           w-split ! $ w-move ! (1 ∷ []) $ w-peeks ! usize (Is usize) (shows 𝓤 H A usize) u1 (r1 ∷ []) (λ is1. w-land ! (w-from ! (w-stop !)) (w-init ! 12 refl (uint-lawful 𝓤 H A W w64 .typed u1 _ is1 .0)) $
           w-drop ! $ w-split ! $ w-move ! (1 ∷ []) $ w-drop ! $
           w-move ! (1 ∷ []) $ use1 W (‵ (ShrSlice (named 0) κ-words usize .own (ref-words γ-words words) (sliceVal (b-words, o-words) (length words) ∷ [])) ⊛ ‵ (ShrSlice (named 0) κ-words usize .own (ref-words γ-words words) (sliceVal (b-words, o-words) (length words) ∷ []))) (shr-slice-copy 𝓤 H A W (named 0) κ-words usize .twice (ref-words γ-words words) (s-words ∷ [])) $ w-split ! $
           w-nothing ! $ w-move ! (1 ∷ 0 ∷ []) $ w-fjoin ! $ w-owned ! usize (Is usize) (uint-makes 𝓤 H A W w64) n _ ((refl, fits-n)) $ w-fjoin ! $ w-owned ! usize (Is usize) (uint-makes 𝓤 H A W w64) i _ ((refl, fits-turn)) $ w-fjoin ! $ w-owned ! usize (Is usize) (uint-makes 𝓤 H A W w64) source _ ((refl, fits-source)) $ w-fjoin ! $
           w-nothing ! $ w-move ! (3 ∷ 0 ∷ []) $ w-join ! $
-          use2 W (raw (C-update-of 𝓤 H A mem run .pre (((κ-words, tt), (q-words, tt), tt, (source, (i, (n, (ref-words γ-words words, tt)))), (vint w64 source ∷ [], (vint w64 i ∷ [], (vint w64 n ∷ [], (sliceVal (b-words, o-words) (length words) ∷ [], tt))))), tt))) (asked2 i v-us len-us kept small u1 r1 is1 d1) $
-          w-calls-at ! fm (C-update-of 𝓤 H A mem run) known-update-of (((κ-words, tt), (q-words, tt), tt, (source, (i, (n, (ref-words γ-words words, tt)))), (vint w64 source ∷ [], (vint w64 i ∷ [], (vint w64 n ∷ [], (sliceVal (b-words, o-words) (length words) ∷ [], tt))))), tt) (w-and-then ! (w-load ! (w-from ! (w-stop !)) (w-look ! 5 refl)) (w-and-then ! (w-load ! (w-from ! (w-stop !)) (w-look ! 10 refl)) (w-and-then ! (w-load ! (w-from ! (w-stop !)) (w-look ! 7 refl)) (w-and-then ! (w-load ! (w-from ! (w-stop !)) (w-look ! 8 refl)) (w-no-more !))))) (λ r2.
+          use2 W (raw (C-update-of 𝓤 H A mem run .pre (((κ-words, tt), (q-words, tt), tt, (source, (i, (n, (ref-words γ-words words, tt)))), (vint w64 source ∷ [], (vint w64 i ∷ [], (vint w64 n ∷ [], (s-words ∷ [], tt))))), tt))) (asked2 i v-us len-us kept small u1 r1 is1 d1) $
+          w-calls-at ! fm (C-update-of 𝓤 H A mem run) known-update-of (((κ-words, tt), (q-words, tt), tt, (source, (i, (n, (ref-words γ-words words, tt)))), (vint w64 source ∷ [], (vint w64 i ∷ [], (vint w64 n ∷ [], (s-words ∷ [], tt))))), tt) (w-and-then ! (w-load ! (w-from ! (w-stop !)) (w-look ! 5 refl)) (w-and-then ! (w-load ! (w-from ! (w-stop !)) (w-look ! 10 refl)) (w-and-then ! (w-load ! (w-from ! (w-stop !)) (w-look ! 7 refl)) (w-and-then ! (w-load ! (w-from ! (w-stop !)) (w-look ! 8 refl)) (w-no-more !))))) (λ r2.
           use1 W (later (some (λ (u′ : Update). ((‵ (flft (κ-words) q-words) ⊛ ‵ ftrue) ⊛ ‵ (T-Update.the-row .own u′ (r2 ∷ []))) ⊛ raw (ensured 𝓤 H A f-update-of.ended (f-update-of.clauses 𝓤 H A mem run) (κ-words, tt) (source, (i, (n, (ref-words γ-words words, tt)))) tt u′)))) (id⊢ 𝓤 _) $ w-await ! tt $ w-pick ! (λ u2.
           w-split ! $ w-move ! (1 ∷ []) $ use1 W (some (λ (zs2 : Unit {0} × (Unit {0} × (Unit {0} × (Unit {0} × Unit {0})))). ‵ (lasts f-update-of.ended (κ-words, tt) (source, (i, (n, (ref-words γ-words words, tt)))) zs2) ⊛ raw (fact 𝓤 (u2 ≡ said source (drop (updatesAt n) (words)) i)))) (id⊢ 𝓤 _) $ w-pick ! (λ zs2. w-split ! $ w-move ! (1 ∷ []) $ w-heard ! (u2 ≡ said source (drop (updatesAt n) (words)) i) (λ d2.
-          w-fsplit ! $ w-drop ! $ w-fsplit ! $ w-drop ! $ w-fsplit ! $ w-drop ! $ w-fsplit ! $ w-drop ! $ w-drop ! $
+          w-past ! $ w-past ! $ w-past ! $ w-past ! $ w-drop ! $
           w-split ! $ w-move ! (1 ∷ []) $ w-peeks ! T-Update.the-row (Is T-Update.the-row) (shows 𝓤 H A T-Update.the-row) u2 (r2 ∷ []) (λ is2. w-land ! (w-from ! (w-stop !)) (w-init ! 13 refl (LL.lawful T-Update.the-type L-Update.the-laws 𝓤 H A W .typed u2 _ is2 .0)) $
           w-drop ! $ w-split ! $ w-move ! (1 ∷ []) $ w-drop ! $
           w-assigns ! (w-addr ! (w-from ! (w-fld ! refl (w-hop ! (w-look-in ! 9 (w-sub ! 0 refl (w-whole !))) (w-stop !))))) (w-from ! (w-stop !)) (w-init ! 15 refl (tt, tt)) $ w-assigns ! (w-agg ! (w-and-then ! (w-load ! (w-from ! (w-stop !)) (w-look ! 15 refl)) (w-and-then ! (w-load ! (w-from ! (w-fld ! refl (w-stop !))) (w-look-in ! 9 (w-sub ! 1 refl (w-whole !)))) (w-no-more !)))) (w-from ! (w-stop !)) (w-init ! 16 refl (tt, (tt, (record { fits = room-us .0 }, tt)))) $
-          w-rewrite ! 16 (λ (m : ℕ). ‵ (fat fullShare ty12 l12 0 (sliceVal (b-us, o-us) m))) (sym len-us) refl $
-          w-lft-new ! tt (λ ν3-0. w-rewrite ! 3 (λ (m : ℕ). ‵ (MutSlice (named 1) κ-us T-Update.the-row .own (ref-us γ-us v-us) (sliceVal (b-us, o-us) m ∷ []))) (sym len-us) refl $ w-move ! (3 ∷ 4 ∷ []) $ use2 W (later (some (λ (δ : GName). ‵ (MutSlice (named 0) (ν3-0 ∷ []) T-Update.the-row .own (ref-us δ v-us) (sliceVal (b-us, o-us) (length v-us) ∷ [])) ⊛ ‵ (LentAgain T-Update.the-row κ-us (ν3-0 ∷ []) q-us γ-us b-us o-us δ v-us)))) (lends-again T-Update.the-row κ-us (ν3-0 ∷ []) q-us γ-us b-us o-us 𝓤 H A W (named 1) (named 0) v-us) $ w-await ! tt $ w-pick ! (λ δ3-0. w-split ! $
+          w-move ! (2 ∷ 3 ∷ []) $ w-lend ! tt T-Update.the-row κ-us q-us γ-us b-us o-us (named 1) (named 0) v-us (length us) len-us (λ ν3-0 δ3-0.
           w-nothing ! $ w-owned ! T-Update.the-row (Is T-Update.the-row) (LL.makes T-Update.the-type L-Update.the-plain 𝓤 H A) u2 _ is2 $ w-fjoin ! $ w-owned ! usize (Is usize) (uint-makes 𝓤 H A W w64) u1 _ is1 $ w-fjoin ! $ w-move ! (1 ∷ 0 ∷ []) $ w-fjoin ! $
           w-nothing ! $ w-move ! (3 ∷ 0 ∷ []) $ w-join ! $
-          use2 W (raw (C-put-update 𝓤 H A mem run .pre (((ν3-0 ∷ [], tt), (fullShare, tt), tt, (ref-us δ3-0 v-us, (u1, (u2, tt))), (sliceVal (b-us, o-us) (length v-us) ∷ [], (r1 ∷ [], (r2 ∷ [], tt)))), tt))) (asked3 i v-us len-us kept small u1 r1 is1 d1 u2 r2 is2 d2 ν3-0 δ3-0) $
-          w-calls-at ! fm (C-put-update 𝓤 H A mem run) known-put-update (((ν3-0 ∷ [], tt), (fullShare, tt), tt, (ref-us δ3-0 v-us, (u1, (u2, tt))), (sliceVal (b-us, o-us) (length v-us) ∷ [], (r1 ∷ [], (r2 ∷ [], tt)))), tt) (w-and-then ! (w-load ! (w-from ! (w-stop !)) (w-look ! 16 refl)) (w-and-then ! (w-load ! (w-from ! (w-stop !)) (w-look ! 11 refl)) (w-and-then ! (w-load ! (w-from ! (w-stop !)) (w-look ! 12 refl)) (w-no-more !)))) (λ r3.
+          use2 W (raw (C-put-update 𝓤 H A mem run .pre (((ν3-0 ∷ [], tt), (fullShare, tt), tt, (ref-us δ3-0 v-us, (u1, (u2, tt))), (s-us ∷ [], (r1 ∷ [], (r2 ∷ [], tt)))), tt))) (asked3 i v-us len-us kept small u1 r1 is1 d1 u2 r2 is2 d2 ν3-0 δ3-0) $
+          w-calls-at ! fm (C-put-update 𝓤 H A mem run) known-put-update (((ν3-0 ∷ [], tt), (fullShare, tt), tt, (ref-us δ3-0 v-us, (u1, (u2, tt))), (s-us ∷ [], (r1 ∷ [], (r2 ∷ [], tt)))), tt) (w-and-then ! (w-load ! (w-from ! (w-stop !)) (w-look ! 16 refl)) (w-and-then ! (w-load ! (w-from ! (w-stop !)) (w-look ! 11 refl)) (w-and-then ! (w-load ! (w-from ! (w-stop !)) (w-look ! 12 refl)) (w-no-more !)))) (λ r3.
           use1 W (later (some (λ (u′ : Unit {0}). ((‵ (flft (ν3-0 ∷ []) fullShare) ⊛ ‵ ftrue) ⊛ ‵ (Nothing .own u′ (r3 ∷ []))) ⊛ raw (ensured 𝓤 H A f-put-update.ended (f-put-update.clauses 𝓤 H A mem run) (ν3-0 ∷ [], tt) (ref-us δ3-0 v-us, (u1, (u2, tt))) tt u′)))) (id⊢ 𝓤 _) $ w-await ! tt $ w-pick ! (λ u3.
           w-split ! $ w-move ! (1 ∷ []) $ use1 W (some (λ (zs3 : List Update × (Unit {0} × (Unit {0} × Unit {0}))). ‵ (lasts f-put-update.ended (ν3-0 ∷ [], tt) (ref-us δ3-0 v-us, (u1, (u2, tt))) zs3) ⊛ raw (fact 𝓤 ((zs3 .0) ≡ set (v-us) u1 u2)))) (id⊢ 𝓤 _) $ w-pick ! (λ zs3. w-split ! $ w-move ! (1 ∷ []) $ w-heard ! ((zs3 .0) ≡ set (v-us) u1 u2) (λ d3.
-          w-fsplit ! $ w-fsplit ! $ w-move ! (1 ∷ []) $ w-feqL ! (λ same3-us. w-move ! (1 ∷ []) $ w-fsplit ! $ w-drop ! $ w-fsplit ! $ w-drop ! $ w-drop ! $
+          w-last ! (λ same3-us. w-move ! (1 ∷ []) $ w-past ! $ w-past ! $ w-drop ! $
           w-move ! (1 ∷ []) $ w-split ! $ w-move ! (1 ∷ []) $ w-peeks ! Nothing (Is Nothing) (shows 𝓤 H A Nothing) u3 (r3 ∷ []) (λ is3. w-land ! (w-from ! (w-stop !)) (w-init ! 16 refl (nothing-lawful 𝓤 H A W .typed u3 _ is3 .0)) $
-          w-drop ! $ w-split ! $ w-lft-end ! tt $ w-move ! (0 ∷ 3 ∷ 2 ∷ []) $ use3 W (later (‵ (MutSlice (named 1) κ-us T-Update.the-row .own (ref-us γ-us (zs3 .0)) (sliceVal (b-us, o-us) (length v-us) ∷ [])) ⊛ ‵ (flft κ-us q-us))) (comes-back T-Update.the-row κ-us (ν3-0 ∷ []) q-us γ-us b-us o-us 𝓤 H A W (named 1) (named 0) v-us δ3-0 (zs3 .0) (subst (Room T-Update.the-row) (sym len-us) room-us) same3-us) $ w-await ! tt $ w-split ! $
-          w-rewrite ! 0 (λ (m : ℕ). ‵ (MutSlice (named 1) κ-us T-Update.the-row .own (ref-us γ-us (zs3 .0)) (sliceVal (b-us, o-us) m ∷ []))) len-us refl $
+          w-drop ! $ w-move ! (0 ∷ 2 ∷ 1 ∷ []) $ w-back ! tt T-Update.the-row κ-us q-us γ-us b-us o-us (named 1) (named 0) v-us (length us) len-us ν3-0 δ3-0 (zs3 .0) room-us same3-us $
           w-move ! (2 ∷ []) $ w-drop ! $
           w-forget ! 14 refl $ w-forget ! 15 refl $ w-forget ! 16 refl $ w-assigns-last ! (w-bin ! (w-load ! (w-from ! (w-stop !)) (w-look ! 10 refl)) (w-lit ! tt) (record { fits = next-fits })) (w-from ! (w-stop !)) (w-store ! 10 refl (tt, record { fits = next-fits })) $
           w-forget ! 11 refl $ w-forget ! 12 refl $ w-forget ! 13 refl $ w-rewrite ! 10 (λ (j : ℕ). ‵ (fat fullShare ty6 l6 0 (vint w64 j))) (add-one i) refl $
-          w-keep ! (3 ∷ 0 ∷ 2 ∷ 1 ∷ 4 ∷ 5 ∷ 6 ∷ 7 ∷ 8 ∷ 9 ∷ 10 ∷ 11 ∷ 12 ∷ 13 ∷ 14 ∷ 15 ∷ 16 ∷ 17 ∷ []) $ w-by ! (k (zs3 .0) (same3-us ∙ len-us) (again i v-us len-us kept small u1 r1 is1 d1 u2 r2 is2 d2 (zs3 .0) d3 same3-us))))))))))))))))))))
+          w-keep ! (3 ∷ 0 ∷ 2 ∷ 1 ∷ 4 ∷ 5 ∷ 6 ∷ 7 ∷ 8 ∷ 9 ∷ 10 ∷ 11 ∷ 12 ∷ 13 ∷ 14 ∷ 15 ∷ 16 ∷ 17 ∷ []) $ w-by ! (k (zs3 .0) (same3-us ∙ len-us) (again i v-us len-us kept small u1 r1 is1 d1 u2 r2 is2 d2 (zs3 .0) d3 same3-us)))))))))))))))))))
 
       left : (v-us : List Update) (len-us : length v-us ≡ length us) (kept : v-us ≡ written source c (drop (updatesAt n) words) us) (X : SProp 𝓤) → ent 𝓤 (⋆ 𝓤 H A (At c v-us)) (Wp 𝓤 H C Λ En body.turn-1 (afterTurn 𝓤 H X Left))
       unfolding afterTurn

@@ -44,10 +44,9 @@ use prog.Routine.{Routine}
 use prog.Wp.{Calls, Env, Heap, Loops, Out, Tables, Wp, WpFn, afterBlock, afterSeq, afterTurn, atReturn}
 use sound.Loop.{loop-rule}
 use sound.WpLaws.{FmC, WpFn-mono, fmOf}
-use types.Kit.{ !, Given, Item, _$_, _∵_, _⊛_, anyQ, atRet, await as w-await, by as w-by, done, drop as w-drop, feqI as w-feqI, feqL as w-feqL, fjoin as w-fjoin, frame as w-frame, fsplit as w-fsplit, join as w-join, keep as w-keep, later, move as w-move, pick as w-pick, qed, raw, rewrite as w-rewrite, some, split as w-split, suffices as w-suffices, use1, use2, use3, ‵, ⋆}
+use types.Kit.{ !, Given, Item, _$_, _∵_, _⊛_, anyQ, atRet, await as w-await, by as w-by, done, drop as w-drop, feqI as w-feqI, fjoin as w-fjoin, frame as w-frame, fsplit as w-fsplit, join as w-join, keep as w-keep, later, move as w-move, pick as w-pick, qed, raw, rewrite as w-rewrite, some, split as w-split, suffices as w-suffices, use1, use2, ‵, ⋆}
 use types.Part.{agg as w-agg, look-in as w-look-in, sub as w-sub, whole as w-whole}
 use types.Run.{addr as w-addr, alloc0 as w-alloc0, alloc1 as w-alloc1, and-then as w-and-then, assigns as w-assigns, assigns-last as w-assigns-last, bin as w-bin, enter as w-enter, exec as w-exec, fld as w-fld, forget as w-forget, from as w-from, hop as w-hop, init as w-init, land as w-land, leaves-loop as w-leaves-loop, lit as w-lit, load as w-load, look as w-look, no-more as w-no-more, of-opd as w-of-opd, params1 as w-params1, pass0 as w-pass0, pass1 as w-pass1, returns as w-returns, stays as w-stays, stop as w-stop, store as w-store, unit-lit as w-unit-lit}
-use types.Tokens.{lft-end as w-lft-end, lft-new as w-lft-new}
 use denote.Struct.Laws as LL
 use Rattle.statement.specs.declared.Update.{Update}
 use Rattle.statement.proofs.Update as T-Update
@@ -60,8 +59,8 @@ use Rattle.turn.proofs.keep as f-keep
 use Rattle.turn.proofs.keep.Symbol as def-keep
 use Rattle.turn.proofs.keep.Symbol.{name as #turn·keep}
 use Rattle.turn.proofs.keep.Met as thm-keep
-use Rattle.update.proofs.Packs.{Packed, pack as w-pack, unpack as w-unpack, homes-freed as w-homes-freed}
-use Rattle.update.proofs.Again.{LentAgain, lends-again, comes-back}
+use Rattle.update.proofs.Packs.{Packed, pack as w-pack, unpack as w-unpack, written as w-written, homes-freed as w-homes-freed}
+use Rattle.update.proofs.Lending.{lend as w-lend, back as w-back, last as w-last, past as w-past}
 use Rattle.run.proofs.fetch.Key.{name as #run·fetch}
 use Rattle.run.proofs.fetch as here
 use Rattle.run.proofs.fetch.Statement as stated
@@ -158,13 +157,13 @@ module _ {M : Type 1} (𝓤 : URA M) (H : Heap 𝓤) (A : Atoms 𝓤) (W : Given
     abbrev fm : FmC 𝓤 H (W .laws) (𝓣 .C)
     fm = fmOf 𝓤 H (W .laws) 𝓣
 
-    asked1 : (i : ℕ) (v-words : List ℕ) (len-words : length v-words ≡ length words) (kept : (lo ≤ i) × Brought lo (i - lo) n us words v-words) (small : i < hi) → ent 𝓤 (onEntry 𝓤 H A f-update-at.signature (κ-us, tt) (q-us, tt) (ref-us γ-us us, (i, tt)) (sliceVal (b-us, o-us) (length us) ∷ [], (vint w64 i ∷ [], tt))) (C-update-at 𝓤 H A mem run .pre (((κ-us, tt), (q-us, tt), tt, (ref-us γ-us us, (i, tt)), (sliceVal (b-us, o-us) (length us) ∷ [], (vint w64 i ∷ [], tt))), tt))
+    asked1 : (i : ℕ) (v-words : List ℕ) (len-words : length v-words ≡ length words) (kept : (lo ≤ i) × Brought lo (i - lo) n us words v-words) (small : i < hi) → ent 𝓤 (onEntry 𝓤 H A f-update-at.signature (κ-us, tt) (q-us, tt) (ref-us γ-us us, (i, tt)) (s-us ∷ [], (vint w64 i ∷ [], tt))) (C-update-at 𝓤 H A mem run .pre (((κ-us, tt), (q-us, tt), tt, (ref-us γ-us us, (i, tt)), (s-us ∷ [], (vint w64 i ∷ [], tt))), tt))
     asked1 i v-words len-words kept small =
-        let need : i < length (us) = omega (arith, pre .1, small) in qed W ((‵ (flft (κ-us) q-us) ⊛ ‵ ftrue) ∷ ‵ (owns (ShrSlice (named 0) (κ-us) T-Update.the-row ∷ usize ∷ []) (ref-us γ-us us, (i, tt)) (sliceVal (b-us, o-us) (length us) ∷ [], (vint w64 i ∷ [], tt))) ∷ []) ∵ w-says ! need $ w-frame ! $ done !
+        let need : i < length (us) = omega (arith, pre .1, small) in qed W ((‵ (flft (κ-us) q-us) ⊛ ‵ ftrue) ∷ ‵ (owns (ShrSlice (named 0) (κ-us) T-Update.the-row ∷ usize ∷ []) (ref-us γ-us us, (i, tt)) (s-us ∷ [], (vint w64 i ∷ [], tt))) ∷ []) ∵ w-says ! need $ w-frame ! $ done !
 
-    asked2 : (i : ℕ) (v-words : List ℕ) (len-words : length v-words ≡ length words) (kept : (lo ≤ i) × Brought lo (i - lo) n us words v-words) (small : i < hi) (u1 : Update) (r1 : Val) (is1 : Is T-Update.the-row u1 (r1 ∷ [])) (d1 : u1 ≡ getD (us) i noUpdate) (ν2-4 : ℕ) (δ2-4 : GName) → ent 𝓤 (onEntry 𝓤 H A f-keep.signature (ν2-4 ∷ [], tt) (fullShare, tt) (u1, (i, (lo, (n, (ref-words δ2-4 v-words, tt))))) (r1 ∷ [], (vint w64 i ∷ [], (vint w64 lo ∷ [], (vint w64 n ∷ [], (sliceVal (b-words, o-words) (length v-words) ∷ [], tt)))))) (C-keep 𝓤 H A mem run .pre (((ν2-4 ∷ [], tt), (fullShare, tt), tt, (u1, (i, (lo, (n, (ref-words δ2-4 v-words, tt))))), (r1 ∷ [], (vint w64 i ∷ [], (vint w64 lo ∷ [], (vint w64 n ∷ [], (sliceVal (b-words, o-words) (length v-words) ∷ [], tt)))))), tt))
+    asked2 : (i : ℕ) (v-words : List ℕ) (len-words : length v-words ≡ length words) (kept : (lo ≤ i) × Brought lo (i - lo) n us words v-words) (small : i < hi) (u1 : Update) (r1 : Val) (is1 : Is T-Update.the-row u1 (r1 ∷ [])) (d1 : u1 ≡ getD (us) i noUpdate) (ν2-4 : ℕ) (δ2-4 : GName) → ent 𝓤 (onEntry 𝓤 H A f-keep.signature (ν2-4 ∷ [], tt) (fullShare, tt) (u1, (i, (lo, (n, (ref-words δ2-4 v-words, tt))))) (r1 ∷ [], (vint w64 i ∷ [], (vint w64 lo ∷ [], (vint w64 n ∷ [], (s-words ∷ [], tt)))))) (C-keep 𝓤 H A mem run .pre (((ν2-4 ∷ [], tt), (fullShare, tt), tt, (u1, (i, (lo, (n, (ref-words δ2-4 v-words, tt))))), (r1 ∷ [], (vint w64 i ∷ [], (vint w64 lo ∷ [], (vint w64 n ∷ [], (s-words ∷ [], tt)))))), tt))
     asked2 i v-words len-words kept small u1 r1 is1 d1 ν2-4 δ2-4 =
-        let need : (lo ≤ i) × (i - lo < n) × (ownersAt n ≤ length (v-words)) = keeps-asked pre len-words kept small in qed W ((‵ (flft (ν2-4 ∷ []) fullShare) ⊛ ‵ ftrue) ∷ ‵ (owns (T-Update.the-row ∷ usize ∷ usize ∷ usize ∷ MutSlice (named 0) (ν2-4 ∷ []) usize ∷ []) (u1, (i, (lo, (n, (ref-words δ2-4 v-words, tt))))) (r1 ∷ [], (vint w64 i ∷ [], (vint w64 lo ∷ [], (vint w64 n ∷ [], (sliceVal (b-words, o-words) (length v-words) ∷ [], tt)))))) ∷ []) ∵ w-says ! need $ w-frame ! $ done !
+        let need : (lo ≤ i) × (i - lo < n) × (ownersAt n ≤ length (v-words)) = keeps-asked pre len-words kept small in qed W ((‵ (flft (ν2-4 ∷ []) fullShare) ⊛ ‵ ftrue) ∷ ‵ (owns (T-Update.the-row ∷ usize ∷ usize ∷ usize ∷ MutSlice (named 0) (ν2-4 ∷ []) usize ∷ []) (u1, (i, (lo, (n, (ref-words δ2-4 v-words, tt))))) (r1 ∷ [], (vint w64 i ∷ [], (vint w64 lo ∷ [], (vint w64 n ∷ [], (s-words ∷ [], tt)))))) ∷ []) ∵ w-says ! need $ w-frame ! $ done !
 
     again : (i : ℕ) (v-words : List ℕ) (len-words : length v-words ≡ length words) (kept : (lo ≤ i) × Brought lo (i - lo) n us words v-words) (small : i < hi) (u1 : Update) (r1 : Val) (is1 : Is T-Update.the-row u1 (r1 ∷ [])) (d1 : u1 ≡ getD (us) i noUpdate) (c2-words : List ℕ) (d2 : c2-words ≡ keptAt n (i - lo) u1 (v-words)) (same2-words : length c2-words ≡ length v-words) → (lo ≤ (suc i)) × Brought lo ((suc i) - lo) n us words c2-words
     again i v-words len-words kept small u1 r1 is1 d1 c2-words d2 same2-words = brought-more pre len-words kept small d1 d2
@@ -202,30 +201,28 @@ module _ {M : Type 1} (𝓤 : URA M) (H : Heap 𝓤) (A : Atoms 𝓤) (W : Given
           use1 W (‵ (ShrSlice (named 0) κ-us T-Update.the-row .own (ref-us γ-us us) (sliceVal (b-us, o-us) (length us) ∷ [])) ⊛ ‵ (ShrSlice (named 0) κ-us T-Update.the-row .own (ref-us γ-us us) (sliceVal (b-us, o-us) (length us) ∷ []))) (shr-slice-copy 𝓤 H A W (named 0) κ-us T-Update.the-row .twice (ref-us γ-us us) (s-us ∷ [])) $ w-split ! $
           w-nothing ! $ w-owned ! usize (Is usize) (uint-makes 𝓤 H A W w64) i _ ((refl, fits-turn)) $ w-fjoin ! $ w-move ! (1 ∷ 0 ∷ []) $ w-fjoin ! $
           w-nothing ! $ w-move ! (4 ∷ 0 ∷ []) $ w-join ! $
-          use2 W (raw (C-update-at 𝓤 H A mem run .pre (((κ-us, tt), (q-us, tt), tt, (ref-us γ-us us, (i, tt)), (sliceVal (b-us, o-us) (length us) ∷ [], (vint w64 i ∷ [], tt))), tt))) (asked1 i v-words len-words kept small) $
-          w-calls-at ! fm (C-update-at 𝓤 H A mem run) known-update-at (((κ-us, tt), (q-us, tt), tt, (ref-us γ-us us, (i, tt)), (sliceVal (b-us, o-us) (length us) ∷ [], (vint w64 i ∷ [], tt))), tt) (w-and-then ! (w-load ! (w-from ! (w-stop !)) (w-look ! 8 refl)) (w-and-then ! (w-load ! (w-from ! (w-stop !)) (w-look ! 10 refl)) (w-no-more !))) (λ r1.
+          use2 W (raw (C-update-at 𝓤 H A mem run .pre (((κ-us, tt), (q-us, tt), tt, (ref-us γ-us us, (i, tt)), (s-us ∷ [], (vint w64 i ∷ [], tt))), tt))) (asked1 i v-words len-words kept small) $
+          w-calls-at ! fm (C-update-at 𝓤 H A mem run) known-update-at (((κ-us, tt), (q-us, tt), tt, (ref-us γ-us us, (i, tt)), (s-us ∷ [], (vint w64 i ∷ [], tt))), tt) (w-and-then ! (w-load ! (w-from ! (w-stop !)) (w-look ! 8 refl)) (w-and-then ! (w-load ! (w-from ! (w-stop !)) (w-look ! 10 refl)) (w-no-more !))) (λ r1.
           use1 W (later (some (λ (u′ : Update). ((‵ (flft (κ-us) q-us) ⊛ ‵ ftrue) ⊛ ‵ (T-Update.the-row .own u′ (r1 ∷ []))) ⊛ raw (ensured 𝓤 H A f-update-at.ended (f-update-at.clauses 𝓤 H A mem run) (κ-us, tt) (ref-us γ-us us, (i, tt)) tt u′)))) (id⊢ 𝓤 _) $ w-await ! tt $ w-pick ! (λ u1.
           w-split ! $ w-move ! (1 ∷ []) $ use1 W (some (λ (zs1 : Unit {0} × (Unit {0} × Unit {0})). ‵ (lasts f-update-at.ended (κ-us, tt) (ref-us γ-us us, (i, tt)) zs1) ⊛ raw (fact 𝓤 (u1 ≡ getD (us) i noUpdate)))) (id⊢ 𝓤 _) $ w-pick ! (λ zs1. w-split ! $ w-move ! (1 ∷ []) $ w-heard ! (u1 ≡ getD (us) i noUpdate) (λ d1.
-          w-fsplit ! $ w-drop ! $ w-fsplit ! $ w-drop ! $ w-drop ! $
+          w-past ! $ w-past ! $ w-drop ! $
           w-split ! $ w-move ! (1 ∷ []) $ w-peeks ! T-Update.the-row (Is T-Update.the-row) (shows 𝓤 H A T-Update.the-row) u1 (r1 ∷ []) (λ is1. w-land ! (w-from ! (w-stop !)) (w-init ! 12 refl (LL.lawful T-Update.the-type L-Update.the-laws 𝓤 H A W .typed u1 _ is1 .0)) $
           w-drop ! $ w-split ! $ w-move ! (1 ∷ []) $ w-drop ! $
           w-assigns ! (w-addr ! (w-from ! (w-fld ! refl (w-hop ! (w-look-in ! 9 (w-sub ! 0 refl (w-whole !))) (w-stop !))))) (w-from ! (w-stop !)) (w-init ! 14 refl (tt, tt)) $ w-assigns ! (w-agg ! (w-and-then ! (w-load ! (w-from ! (w-stop !)) (w-look ! 14 refl)) (w-and-then ! (w-load ! (w-from ! (w-fld ! refl (w-stop !))) (w-look-in ! 9 (w-sub ! 1 refl (w-whole !)))) (w-no-more !)))) (w-from ! (w-stop !)) (w-init ! 15 refl (tt, (tt, (record { fits = room-words .0 }, tt)))) $
-          w-rewrite ! 15 (λ (m : ℕ). ‵ (fat fullShare ty11 l11 0 (sliceVal (b-words, o-words) m))) (sym len-words) refl $
-          w-lft-new ! tt (λ ν2-4. w-rewrite ! 3 (λ (m : ℕ). ‵ (MutSlice (named 1) κ-words usize .own (ref-words γ-words v-words) (sliceVal (b-words, o-words) m ∷ []))) (sym len-words) refl $ w-move ! (3 ∷ 4 ∷ []) $ use2 W (later (some (λ (δ : GName). ‵ (MutSlice (named 0) (ν2-4 ∷ []) usize .own (ref-words δ v-words) (sliceVal (b-words, o-words) (length v-words) ∷ [])) ⊛ ‵ (LentAgain usize κ-words (ν2-4 ∷ []) q-words γ-words b-words o-words δ v-words)))) (lends-again usize κ-words (ν2-4 ∷ []) q-words γ-words b-words o-words 𝓤 H A W (named 1) (named 0) v-words) $ w-await ! tt $ w-pick ! (λ δ2-4. w-split ! $
+          w-move ! (2 ∷ 3 ∷ []) $ w-lend ! tt usize κ-words q-words γ-words b-words o-words (named 1) (named 0) v-words (length words) len-words (λ ν2-4 δ2-4.
           w-nothing ! $ w-move ! (1 ∷ 0 ∷ []) $ w-fjoin ! $ w-owned ! usize (Is usize) (uint-makes 𝓤 H A W w64) n _ ((refl, fits-n)) $ w-fjoin ! $ w-owned ! usize (Is usize) (uint-makes 𝓤 H A W w64) lo _ ((refl, fits-lo)) $ w-fjoin ! $ w-owned ! usize (Is usize) (uint-makes 𝓤 H A W w64) i _ ((refl, fits-turn)) $ w-fjoin ! $ w-owned ! T-Update.the-row (Is T-Update.the-row) (LL.makes T-Update.the-type L-Update.the-plain 𝓤 H A) u1 _ is1 $ w-fjoin ! $
           w-nothing ! $ w-move ! (3 ∷ 0 ∷ []) $ w-join ! $
-          use2 W (raw (C-keep 𝓤 H A mem run .pre (((ν2-4 ∷ [], tt), (fullShare, tt), tt, (u1, (i, (lo, (n, (ref-words δ2-4 v-words, tt))))), (r1 ∷ [], (vint w64 i ∷ [], (vint w64 lo ∷ [], (vint w64 n ∷ [], (sliceVal (b-words, o-words) (length v-words) ∷ [], tt)))))), tt))) (asked2 i v-words len-words kept small u1 r1 is1 d1 ν2-4 δ2-4) $
-          w-calls-at ! fm (C-keep 𝓤 H A mem run) known-keep (((ν2-4 ∷ [], tt), (fullShare, tt), tt, (u1, (i, (lo, (n, (ref-words δ2-4 v-words, tt))))), (r1 ∷ [], (vint w64 i ∷ [], (vint w64 lo ∷ [], (vint w64 n ∷ [], (sliceVal (b-words, o-words) (length v-words) ∷ [], tt)))))), tt) (w-and-then ! (w-load ! (w-from ! (w-stop !)) (w-look ! 11 refl)) (w-and-then ! (w-load ! (w-from ! (w-stop !)) (w-look ! 10 refl)) (w-and-then ! (w-load ! (w-from ! (w-stop !)) (w-look ! 5 refl)) (w-and-then ! (w-load ! (w-from ! (w-stop !)) (w-look ! 7 refl)) (w-and-then ! (w-load ! (w-from ! (w-stop !)) (w-look ! 15 refl)) (w-no-more !)))))) (λ r2.
+          use2 W (raw (C-keep 𝓤 H A mem run .pre (((ν2-4 ∷ [], tt), (fullShare, tt), tt, (u1, (i, (lo, (n, (ref-words δ2-4 v-words, tt))))), (r1 ∷ [], (vint w64 i ∷ [], (vint w64 lo ∷ [], (vint w64 n ∷ [], (s-words ∷ [], tt)))))), tt))) (asked2 i v-words len-words kept small u1 r1 is1 d1 ν2-4 δ2-4) $
+          w-calls-at ! fm (C-keep 𝓤 H A mem run) known-keep (((ν2-4 ∷ [], tt), (fullShare, tt), tt, (u1, (i, (lo, (n, (ref-words δ2-4 v-words, tt))))), (r1 ∷ [], (vint w64 i ∷ [], (vint w64 lo ∷ [], (vint w64 n ∷ [], (s-words ∷ [], tt)))))), tt) (w-and-then ! (w-load ! (w-from ! (w-stop !)) (w-look ! 11 refl)) (w-and-then ! (w-load ! (w-from ! (w-stop !)) (w-look ! 10 refl)) (w-and-then ! (w-load ! (w-from ! (w-stop !)) (w-look ! 5 refl)) (w-and-then ! (w-load ! (w-from ! (w-stop !)) (w-look ! 7 refl)) (w-and-then ! (w-load ! (w-from ! (w-stop !)) (w-look ! 15 refl)) (w-no-more !)))))) (λ r2.
           use1 W (later (some (λ (u′ : Unit {0}). ((‵ (flft (ν2-4 ∷ []) fullShare) ⊛ ‵ ftrue) ⊛ ‵ (Nothing .own u′ (r2 ∷ []))) ⊛ raw (ensured 𝓤 H A f-keep.ended (f-keep.clauses 𝓤 H A mem run) (ν2-4 ∷ [], tt) (u1, (i, (lo, (n, (ref-words δ2-4 v-words, tt))))) tt u′)))) (id⊢ 𝓤 _) $ w-await ! tt $ w-pick ! (λ u2.
           w-split ! $ w-move ! (1 ∷ []) $ use1 W (some (λ (zs2 : Unit {0} × (Unit {0} × (Unit {0} × (Unit {0} × (List ℕ × Unit {0}))))). ‵ (lasts f-keep.ended (ν2-4 ∷ [], tt) (u1, (i, (lo, (n, (ref-words δ2-4 v-words, tt))))) zs2) ⊛ raw (fact 𝓤 ((zs2 .1 .1 .1 .1 .0) ≡ keptAt n (i - lo) u1 (v-words))))) (id⊢ 𝓤 _) $ w-pick ! (λ zs2. w-split ! $ w-move ! (1 ∷ []) $ w-heard ! ((zs2 .1 .1 .1 .1 .0) ≡ keptAt n (i - lo) u1 (v-words)) (λ d2.
-          w-fsplit ! $ w-drop ! $ w-fsplit ! $ w-drop ! $ w-fsplit ! $ w-drop ! $ w-fsplit ! $ w-drop ! $ w-fsplit ! $ w-fsplit ! $ w-move ! (1 ∷ []) $ w-feqL ! (λ same2-words. w-move ! (1 ∷ []) $ w-drop ! $
+          w-past ! $ w-past ! $ w-past ! $ w-past ! $ w-last ! (λ same2-words. w-move ! (1 ∷ []) $ w-drop ! $
           w-move ! (1 ∷ []) $ w-split ! $ w-move ! (1 ∷ []) $ w-peeks ! Nothing (Is Nothing) (shows 𝓤 H A Nothing) u2 (r2 ∷ []) (λ is2. w-land ! (w-from ! (w-stop !)) (w-init ! 15 refl (nothing-lawful 𝓤 H A W .typed u2 _ is2 .0)) $
-          w-drop ! $ w-split ! $ w-lft-end ! tt $ w-move ! (0 ∷ 3 ∷ 2 ∷ []) $ use3 W (later (‵ (MutSlice (named 1) κ-words usize .own (ref-words γ-words (zs2 .1 .1 .1 .1 .0)) (sliceVal (b-words, o-words) (length v-words) ∷ [])) ⊛ ‵ (flft κ-words q-words))) (comes-back usize κ-words (ν2-4 ∷ []) q-words γ-words b-words o-words 𝓤 H A W (named 1) (named 0) v-words δ2-4 (zs2 .1 .1 .1 .1 .0) (subst (Room usize) (sym len-words) room-words) same2-words) $ w-await ! tt $ w-split ! $
-          w-rewrite ! 0 (λ (m : ℕ). ‵ (MutSlice (named 1) κ-words usize .own (ref-words γ-words (zs2 .1 .1 .1 .1 .0)) (sliceVal (b-words, o-words) m ∷ []))) len-words refl $
+          w-drop ! $ w-move ! (0 ∷ 2 ∷ 1 ∷ []) $ w-back ! tt usize κ-words q-words γ-words b-words o-words (named 1) (named 0) v-words (length words) len-words ν2-4 δ2-4 (zs2 .1 .1 .1 .1 .0) room-words same2-words $
           w-move ! (2 ∷ []) $ w-drop ! $
           w-forget ! 13 refl $ w-forget ! 14 refl $ w-forget ! 15 refl $ w-assigns-last ! (w-bin ! (w-load ! (w-from ! (w-stop !)) (w-look ! 10 refl)) (w-lit ! tt) (record { fits = next-fits })) (w-from ! (w-stop !)) (w-store ! 10 refl (tt, record { fits = next-fits })) $
           w-forget ! 11 refl $ w-forget ! 12 refl $ w-rewrite ! 10 (λ (j : ℕ). ‵ (fat fullShare ty6 l6 0 (vint w64 j))) (add-one i) refl $
-          w-keep ! (3 ∷ 0 ∷ 2 ∷ 1 ∷ 4 ∷ 5 ∷ 6 ∷ 7 ∷ 8 ∷ 9 ∷ 10 ∷ 11 ∷ 12 ∷ 13 ∷ 14 ∷ 15 ∷ 16 ∷ []) $ w-by ! (k (zs2 .1 .1 .1 .1 .0) (same2-words ∙ len-words) (again i v-words len-words kept small u1 r1 is1 d1 (zs2 .1 .1 .1 .1 .0) d2 same2-words)))))))))))))))
+          w-keep ! (3 ∷ 0 ∷ 2 ∷ 1 ∷ 4 ∷ 5 ∷ 6 ∷ 7 ∷ 8 ∷ 9 ∷ 10 ∷ 11 ∷ 12 ∷ 13 ∷ 14 ∷ 15 ∷ 16 ∷ []) $ w-by ! (k (zs2 .1 .1 .1 .1 .0) (same2-words ∙ len-words) (again i v-words len-words kept small u1 r1 is1 d1 (zs2 .1 .1 .1 .1 .0) d2 same2-words))))))))))))))
 
       left : (v-words : List ℕ) (len-words : length v-words ≡ length words) (kept : (lo ≤ hi) × Brought lo (hi - lo) n us words v-words) (X : SProp 𝓤) → ent 𝓤 (⋆ 𝓤 H A (At hi v-words)) (Wp 𝓤 H C Λ En body.turn-1 (afterTurn 𝓤 H X Left))
       unfolding afterTurn

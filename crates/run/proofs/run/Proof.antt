@@ -47,10 +47,9 @@ use prog.Routine.{Routine}
 use prog.Wp.{Calls, Env, Heap, Loops, Out, Tables, Wp, WpFn, afterBlock, afterSeq, afterTurn, atReturn}
 use sound.Loop.{loop-rule}
 use sound.WpLaws.{FmC, WpFn-mono, fmOf}
-use types.Kit.{ !, Given, Item, _$_, _∵_, _⊛_, anyQ, atRet, await as w-await, by as w-by, done, drop as w-drop, feqL as w-feqL, fjoin as w-fjoin, frame as w-frame, fsplit as w-fsplit, join as w-join, keep as w-keep, later, move as w-move, pick as w-pick, qed, raw, rewrite as w-rewrite, some, split as w-split, suffices as w-suffices, use1, use2, use3, ‵, ⋆}
+use types.Kit.{ !, Given, Item, _$_, _∵_, _⊛_, anyQ, atRet, await as w-await, by as w-by, done, drop as w-drop, fjoin as w-fjoin, frame as w-frame, fsplit as w-fsplit, join as w-join, keep as w-keep, later, move as w-move, pick as w-pick, qed, raw, rewrite as w-rewrite, some, split as w-split, suffices as w-suffices, use1, use2, ‵, ⋆}
 use types.Part.{agg as w-agg, look-in as w-look-in, sub as w-sub, whole as w-whole}
 use types.Run.{addr as w-addr, alloc0 as w-alloc0, alloc1 as w-alloc1, and-then as w-and-then, assigns as w-assigns, assigns-last as w-assigns-last, bin as w-bin, enter as w-enter, exec as w-exec, fld as w-fld, forget as w-forget, from as w-from, hop as w-hop, init as w-init, land as w-land, leaves-loop as w-leaves-loop, lit as w-lit, load as w-load, look as w-look, no-more as w-no-more, of-opd as w-of-opd, params1 as w-params1, pass0 as w-pass0, pass1 as w-pass1, returns as w-returns, stays as w-stays, stop as w-stop, store as w-store}
-use types.Tokens.{lft-end as w-lft-end, lft-new as w-lft-new}
 use Rattle.statement.specs.declared.Update.{Update}
 use Rattle.statement.proofs.Update as T-Update
 use Rattle.turn.proofs.name as f-name
@@ -73,9 +72,8 @@ use Rattle.turn.proofs.turn as f-turn
 use Rattle.turn.proofs.turn.Symbol as def-turn
 use Rattle.turn.proofs.turn.Symbol.{name as #turn·turn}
 use Rattle.turn.proofs.turn.Met as thm-turn
-use Rattle.update.proofs.Packs.{Packed, pack as w-pack, unpack as w-unpack, homes-freed as w-homes-freed}
-use Rattle.update.proofs.Again.{LentAgain, lends-again, comes-back}
-use Rattle.update.proofs.Shared.{LentShared, lends-shared, shared-back}
+use Rattle.update.proofs.Packs.{Packed, pack as w-pack, unpack as w-unpack, written as w-written, homes-freed as w-homes-freed}
+use Rattle.update.proofs.Lending.{lend as w-lend, show as w-show, back as w-back, shown as w-shown, last as w-last, past as w-past}
 use Rattle.run.proofs.run.Key.{name as #run·run}
 use Rattle.run.proofs.run as here
 use Rattle.run.proofs.run.Statement as stated
@@ -274,25 +272,25 @@ module _ {M : Type 1} (𝓤 : URA M) (H : Heap 𝓤) (A : Atoms 𝓤) (W : Given
     abbrev fm : FmC 𝓤 H (W .laws) (𝓣 .C)
     fm = fmOf 𝓤 H (W .laws) 𝓣
 
-    asked1 : (i : ℕ) (v-words : List ℕ) (v-floats : List Float) (v-values : List Float) (least : ℕ) (m-least : Val) (len-words : length v-words ≡ length words) (len-floats : length v-floats ≡ length floats) (len-values : length v-values ≡ length values) (is-least : Is usize least (m-least ∷ [])) (kept : Going steps ns n a entries firsts starts rows words floats values v-words v-floats v-values least i) (small : i < steps) (ν1-2 : ℕ) (δ1-2 : GName) → ent 𝓤 (onEntry 𝓤 H A f-name.signature (ν1-2 ∷ [], tt) (fullShare, tt) (n, (i, (ref-words δ1-2 v-words, tt))) (vint w64 n ∷ [], (vint w64 i ∷ [], (sliceVal (b-words, o-words) (length v-words) ∷ [], tt)))) (C-name 𝓤 H A mem run .pre (((ν1-2 ∷ [], tt), (fullShare, tt), tt, (n, (i, (ref-words δ1-2 v-words, tt))), (vint w64 n ∷ [], (vint w64 i ∷ [], (sliceVal (b-words, o-words) (length v-words) ∷ [], tt)))), tt))
+    asked1 : (i : ℕ) (v-words : List ℕ) (v-floats : List Float) (v-values : List Float) (least : ℕ) (m-least : Val) (len-words : length v-words ≡ length words) (len-floats : length v-floats ≡ length floats) (len-values : length v-values ≡ length values) (is-least : Is usize least (m-least ∷ [])) (kept : Going steps ns n a entries firsts starts rows words floats values v-words v-floats v-values least i) (small : i < steps) (ν1-2 : ℕ) (δ1-2 : GName) → ent 𝓤 (onEntry 𝓤 H A f-name.signature (ν1-2 ∷ [], tt) (fullShare, tt) (n, (i, (ref-words δ1-2 v-words, tt))) (vint w64 n ∷ [], (vint w64 i ∷ [], (s-words ∷ [], tt)))) (C-name 𝓤 H A mem run .pre (((ν1-2 ∷ [], tt), (fullShare, tt), tt, (n, (i, (ref-words δ1-2 v-words, tt))), (vint w64 n ∷ [], (vint w64 i ∷ [], (s-words ∷ [], tt)))), tt))
     asked1 i v-words v-floats v-values least m-least len-words len-floats len-values is-least kept small ν1-2 δ1-2 =
-        let need : namesAt n + i < length (v-words) = name-asked pre kept small in qed W ((‵ (flft (ν1-2 ∷ []) fullShare) ⊛ ‵ ftrue) ∷ ‵ (owns (usize ∷ usize ∷ ShrSlice (named 0) (ν1-2 ∷ []) usize ∷ []) (n, (i, (ref-words δ1-2 v-words, tt))) (vint w64 n ∷ [], (vint w64 i ∷ [], (sliceVal (b-words, o-words) (length v-words) ∷ [], tt)))) ∷ []) ∵ w-says ! need $ w-frame ! $ done !
+        let need : namesAt n + i < length (v-words) = name-asked pre kept small in qed W ((‵ (flft (ν1-2 ∷ []) fullShare) ⊛ ‵ ftrue) ∷ ‵ (owns (usize ∷ usize ∷ ShrSlice (named 0) (ν1-2 ∷ []) usize ∷ []) (n, (i, (ref-words δ1-2 v-words, tt))) (vint w64 n ∷ [], (vint w64 i ∷ [], (s-words ∷ [], tt)))) ∷ []) ∵ w-says ! need $ w-frame ! $ done !
 
-    asked2 : (i : ℕ) (v-words : List ℕ) (v-floats : List Float) (v-values : List Float) (least : ℕ) (m-least : Val) (len-words : length v-words ≡ length words) (len-floats : length v-floats ≡ length floats) (len-values : length v-values ≡ length values) (is-least : Is usize least (m-least ∷ [])) (kept : Going steps ns n a entries firsts starts rows words floats values v-words v-floats v-values least i) (small : i < steps) (u1 : ℕ) (r1 : Val) (is1 : Is usize u1 (r1 ∷ [])) (d1 : u1 ≡ getD (v-words) (namesAt n + i) 0) → ent 𝓤 (onEntry 𝓤 H A f-group.signature (κ-groups, tt) (q-groups, tt) (u1, (ref-groups γ-groups groups, tt)) (r1 ∷ [], (sliceVal (b-groups, o-groups) (length groups) ∷ [], tt))) (C-group 𝓤 H A mem run .pre (((κ-groups, tt), (q-groups, tt), tt, (u1, (ref-groups γ-groups groups, tt)), (r1 ∷ [], (sliceVal (b-groups, o-groups) (length groups) ∷ [], tt))), tt))
+    asked2 : (i : ℕ) (v-words : List ℕ) (v-floats : List Float) (v-values : List Float) (least : ℕ) (m-least : Val) (len-words : length v-words ≡ length words) (len-floats : length v-floats ≡ length floats) (len-values : length v-values ≡ length values) (is-least : Is usize least (m-least ∷ [])) (kept : Going steps ns n a entries firsts starts rows words floats values v-words v-floats v-values least i) (small : i < steps) (u1 : ℕ) (r1 : Val) (is1 : Is usize u1 (r1 ∷ [])) (d1 : u1 ≡ getD (v-words) (namesAt n + i) 0) → ent 𝓤 (onEntry 𝓤 H A f-group.signature (κ-groups, tt) (q-groups, tt) (u1, (ref-groups γ-groups groups, tt)) (r1 ∷ [], (s-groups ∷ [], tt))) (C-group 𝓤 H A mem run .pre (((κ-groups, tt), (q-groups, tt), tt, (u1, (ref-groups γ-groups groups, tt)), (r1 ∷ [], (s-groups ∷ [], tt))), tt))
     asked2 i v-words v-floats v-values least m-least len-words len-floats len-values is-least kept small u1 r1 is1 d1 =
-        let need : suc u1 < length (groups) = group-asked pre kept small d1 in qed W ((‵ (flft (κ-groups) q-groups) ⊛ ‵ ftrue) ∷ ‵ (owns (usize ∷ ShrSlice (named 0) (κ-groups) usize ∷ []) (u1, (ref-groups γ-groups groups, tt)) (r1 ∷ [], (sliceVal (b-groups, o-groups) (length groups) ∷ [], tt))) ∷ []) ∵ w-says ! need $ w-frame ! $ done !
+        let need : suc u1 < length (groups) = group-asked pre kept small d1 in qed W ((‵ (flft (κ-groups) q-groups) ⊛ ‵ ftrue) ∷ ‵ (owns (usize ∷ ShrSlice (named 0) (κ-groups) usize ∷ []) (u1, (ref-groups γ-groups groups, tt)) (r1 ∷ [], (s-groups ∷ [], tt))) ∷ []) ∵ w-says ! need $ w-frame ! $ done !
 
-    asked3 : (i : ℕ) (v-words : List ℕ) (v-floats : List Float) (v-values : List Float) (least : ℕ) (m-least : Val) (len-words : length v-words ≡ length words) (len-floats : length v-floats ≡ length floats) (len-values : length v-values ≡ length values) (is-least : Is usize least (m-least ∷ [])) (kept : Going steps ns n a entries firsts starts rows words floats values v-words v-floats v-values least i) (small : i < steps) (u1 : ℕ) (r1 : Val) (is1 : Is usize u1 (r1 ∷ [])) (d1 : u1 ≡ getD (v-words) (namesAt n + i) 0) (u2 : ℕ) (r2 : Val) (is2 : Is usize u2 (r2 ∷ [])) (d2 : u2 ≡ getD (groups) u1 0) → ent 𝓤 (onEntry 𝓤 H A f-group-end.signature (κ-groups, tt) (q-groups, tt) (u1, (ref-groups γ-groups groups, tt)) (r1 ∷ [], (sliceVal (b-groups, o-groups) (length groups) ∷ [], tt))) (C-group-end 𝓤 H A mem run .pre (((κ-groups, tt), (q-groups, tt), tt, (u1, (ref-groups γ-groups groups, tt)), (r1 ∷ [], (sliceVal (b-groups, o-groups) (length groups) ∷ [], tt))), tt))
+    asked3 : (i : ℕ) (v-words : List ℕ) (v-floats : List Float) (v-values : List Float) (least : ℕ) (m-least : Val) (len-words : length v-words ≡ length words) (len-floats : length v-floats ≡ length floats) (len-values : length v-values ≡ length values) (is-least : Is usize least (m-least ∷ [])) (kept : Going steps ns n a entries firsts starts rows words floats values v-words v-floats v-values least i) (small : i < steps) (u1 : ℕ) (r1 : Val) (is1 : Is usize u1 (r1 ∷ [])) (d1 : u1 ≡ getD (v-words) (namesAt n + i) 0) (u2 : ℕ) (r2 : Val) (is2 : Is usize u2 (r2 ∷ [])) (d2 : u2 ≡ getD (groups) u1 0) → ent 𝓤 (onEntry 𝓤 H A f-group-end.signature (κ-groups, tt) (q-groups, tt) (u1, (ref-groups γ-groups groups, tt)) (r1 ∷ [], (s-groups ∷ [], tt))) (C-group-end 𝓤 H A mem run .pre (((κ-groups, tt), (q-groups, tt), tt, (u1, (ref-groups γ-groups groups, tt)), (r1 ∷ [], (s-groups ∷ [], tt))), tt))
     asked3 i v-words v-floats v-values least m-least len-words len-floats len-values is-least kept small u1 r1 is1 d1 u2 r2 is2 d2 =
-        let need : suc u1 < length (groups) = group-asked pre kept small d1 in qed W ((‵ (flft (κ-groups) q-groups) ⊛ ‵ ftrue) ∷ ‵ (owns (usize ∷ ShrSlice (named 0) (κ-groups) usize ∷ []) (u1, (ref-groups γ-groups groups, tt)) (r1 ∷ [], (sliceVal (b-groups, o-groups) (length groups) ∷ [], tt))) ∷ []) ∵ w-says ! need $ w-frame ! $ done !
+        let need : suc u1 < length (groups) = group-asked pre kept small d1 in qed W ((‵ (flft (κ-groups) q-groups) ⊛ ‵ ftrue) ∷ ‵ (owns (usize ∷ ShrSlice (named 0) (κ-groups) usize ∷ []) (u1, (ref-groups γ-groups groups, tt)) (r1 ∷ [], (s-groups ∷ [], tt))) ∷ []) ∵ w-says ! need $ w-frame ! $ done !
 
-    asked4 : (i : ℕ) (v-words : List ℕ) (v-floats : List Float) (v-values : List Float) (least : ℕ) (m-least : Val) (len-words : length v-words ≡ length words) (len-floats : length v-floats ≡ length floats) (len-values : length v-values ≡ length values) (is-least : Is usize least (m-least ∷ [])) (kept : Going steps ns n a entries firsts starts rows words floats values v-words v-floats v-values least i) (small : i < steps) (u1 : ℕ) (r1 : Val) (is1 : Is usize u1 (r1 ∷ [])) (d1 : u1 ≡ getD (v-words) (namesAt n + i) 0) (u2 : ℕ) (r2 : Val) (is2 : Is usize u2 (r2 ∷ [])) (d2 : u2 ≡ getD (groups) u1 0) (u3 : ℕ) (r3 : Val) (is3 : Is usize u3 (r3 ∷ [])) (d3 : u3 ≡ getD (groups) (suc u1) 0) (ν4-4 : ℕ) (δ4-4 : GName) → ent 𝓤 (onEntry 𝓤 H A f-fetch.signature (κ-us, (ν4-4 ∷ [], tt)) (q-us, (fullShare, tt)) (u2, (u3, (n, (ref-us γ-us us, (ref-words δ4-4 v-words, tt))))) (r2 ∷ [], (r3 ∷ [], (vint w64 n ∷ [], (sliceVal (b-us, o-us) (length us) ∷ [], (sliceVal (b-words, o-words) (length v-words) ∷ [], tt)))))) (C-fetch 𝓤 H A mem run .pre (((κ-us, (ν4-4 ∷ [], tt)), (q-us, (fullShare, tt)), tt, (u2, (u3, (n, (ref-us γ-us us, (ref-words δ4-4 v-words, tt))))), (r2 ∷ [], (r3 ∷ [], (vint w64 n ∷ [], (sliceVal (b-us, o-us) (length us) ∷ [], (sliceVal (b-words, o-words) (length v-words) ∷ [], tt)))))), tt))
+    asked4 : (i : ℕ) (v-words : List ℕ) (v-floats : List Float) (v-values : List Float) (least : ℕ) (m-least : Val) (len-words : length v-words ≡ length words) (len-floats : length v-floats ≡ length floats) (len-values : length v-values ≡ length values) (is-least : Is usize least (m-least ∷ [])) (kept : Going steps ns n a entries firsts starts rows words floats values v-words v-floats v-values least i) (small : i < steps) (u1 : ℕ) (r1 : Val) (is1 : Is usize u1 (r1 ∷ [])) (d1 : u1 ≡ getD (v-words) (namesAt n + i) 0) (u2 : ℕ) (r2 : Val) (is2 : Is usize u2 (r2 ∷ [])) (d2 : u2 ≡ getD (groups) u1 0) (u3 : ℕ) (r3 : Val) (is3 : Is usize u3 (r3 ∷ [])) (d3 : u3 ≡ getD (groups) (suc u1) 0) (ν4-4 : ℕ) (δ4-4 : GName) → ent 𝓤 (onEntry 𝓤 H A f-fetch.signature (κ-us, (ν4-4 ∷ [], tt)) (q-us, (fullShare, tt)) (u2, (u3, (n, (ref-us γ-us us, (ref-words δ4-4 v-words, tt))))) (r2 ∷ [], (r3 ∷ [], (vint w64 n ∷ [], (s-us ∷ [], (s-words ∷ [], tt)))))) (C-fetch 𝓤 H A mem run .pre (((κ-us, (ν4-4 ∷ [], tt)), (q-us, (fullShare, tt)), tt, (u2, (u3, (n, (ref-us γ-us us, (ref-words δ4-4 v-words, tt))))), (r2 ∷ [], (r3 ∷ [], (vint w64 n ∷ [], (s-us ∷ [], (s-words ∷ [], tt)))))), tt))
     asked4 i v-words v-floats v-values least m-least len-words len-floats len-values is-least kept small u1 r1 is1 d1 u2 r2 is2 d2 u3 r3 is3 d3 ν4-4 δ4-4 =
-        let need : (u2 ≤ u3) × (u3 ≤ length (us)) × (u3 - u2 ≤ n) × (ownersAt n ≤ length (v-words)) = fetch-asked pre kept small d1 d2 d3 in qed W ((‵ (flft (κ-us) q-us) ⊛ ‵ (flft (ν4-4 ∷ []) fullShare) ⊛ ‵ ftrue) ∷ ‵ (owns (usize ∷ usize ∷ usize ∷ ShrSlice (named 0) (κ-us) T-Update.the-row ∷ MutSlice (named 1) (ν4-4 ∷ []) usize ∷ []) (u2, (u3, (n, (ref-us γ-us us, (ref-words δ4-4 v-words, tt))))) (r2 ∷ [], (r3 ∷ [], (vint w64 n ∷ [], (sliceVal (b-us, o-us) (length us) ∷ [], (sliceVal (b-words, o-words) (length v-words) ∷ [], tt)))))) ∷ []) ∵ w-says ! need $ w-frame ! $ done !
+        let need : (u2 ≤ u3) × (u3 ≤ length (us)) × (u3 - u2 ≤ n) × (ownersAt n ≤ length (v-words)) = fetch-asked pre kept small d1 d2 d3 in qed W ((‵ (flft (κ-us) q-us) ⊛ ‵ (flft (ν4-4 ∷ []) fullShare) ⊛ ‵ ftrue) ∷ ‵ (owns (usize ∷ usize ∷ usize ∷ ShrSlice (named 0) (κ-us) T-Update.the-row ∷ MutSlice (named 1) (ν4-4 ∷ []) usize ∷ []) (u2, (u3, (n, (ref-us γ-us us, (ref-words δ4-4 v-words, tt))))) (r2 ∷ [], (r3 ∷ [], (vint w64 n ∷ [], (s-us ∷ [], (s-words ∷ [], tt)))))) ∷ []) ∵ w-says ! need $ w-frame ! $ done !
 
-    asked5 : (i : ℕ) (v-words : List ℕ) (v-floats : List Float) (v-values : List Float) (least : ℕ) (m-least : Val) (len-words : length v-words ≡ length words) (len-floats : length v-floats ≡ length floats) (len-values : length v-values ≡ length values) (is-least : Is usize least (m-least ∷ [])) (kept : Going steps ns n a entries firsts starts rows words floats values v-words v-floats v-values least i) (small : i < steps) (u1 : ℕ) (r1 : Val) (is1 : Is usize u1 (r1 ∷ [])) (d1 : u1 ≡ getD (v-words) (namesAt n + i) 0) (u2 : ℕ) (r2 : Val) (is2 : Is usize u2 (r2 ∷ [])) (d2 : u2 ≡ getD (groups) u1 0) (u3 : ℕ) (r3 : Val) (is3 : Is usize u3 (r3 ∷ [])) (d3 : u3 ≡ getD (groups) (suc u1) 0) (c4-words : List ℕ) (d4 : Brought u2 (u3 - u2) n (us) (v-words) (c4-words)) (same4-words : length c4-words ≡ length v-words) (ν5-10 : ℕ) (δ5-10 : GName) (ν5-11 : ℕ) (δ5-11 : GName) (ν5-12 : ℕ) (δ5-12 : GName) → ent 𝓤 (onEntry 𝓤 H A f-turn.signature (κ-firsts, (κ-starts, (κ-rows, (κ-groups, (ν5-10 ∷ [], (ν5-11 ∷ [], (ν5-12 ∷ [], tt))))))) (q-firsts, (q-starts, (q-rows, (q-groups, (fullShare, (fullShare, (fullShare, tt))))))) (u1, (least, (ns, (n, (a, (entries, (ref-firsts γ-firsts firsts, (ref-starts γ-starts starts, (ref-rows γ-rows rows, (ref-groups γ-groups groups, (ref-words δ5-10 c4-words, (ref-floats δ5-11 v-floats, (ref-values δ5-12 v-values, tt))))))))))))) (r1 ∷ [], (m-least ∷ [], (vint w64 ns ∷ [], (vint w64 n ∷ [], (vint w64 a ∷ [], (vint w64 entries ∷ [], (sliceVal (b-firsts, o-firsts) (length firsts) ∷ [], (sliceVal (b-starts, o-starts) (length starts) ∷ [], (sliceVal (b-rows, o-rows) (length rows) ∷ [], (sliceVal (b-groups, o-groups) (length groups) ∷ [], (sliceVal (b-words, o-words) (length c4-words) ∷ [], (sliceVal (b-floats, o-floats) (length v-floats) ∷ [], (sliceVal (b-values, o-values) (length v-values) ∷ [], tt)))))))))))))) (C-turn 𝓤 H A mem run .pre (((κ-firsts, (κ-starts, (κ-rows, (κ-groups, (ν5-10 ∷ [], (ν5-11 ∷ [], (ν5-12 ∷ [], tt))))))), (q-firsts, (q-starts, (q-rows, (q-groups, (fullShare, (fullShare, (fullShare, tt))))))), tt, (u1, (least, (ns, (n, (a, (entries, (ref-firsts γ-firsts firsts, (ref-starts γ-starts starts, (ref-rows γ-rows rows, (ref-groups γ-groups groups, (ref-words δ5-10 c4-words, (ref-floats δ5-11 v-floats, (ref-values δ5-12 v-values, tt))))))))))))), (r1 ∷ [], (m-least ∷ [], (vint w64 ns ∷ [], (vint w64 n ∷ [], (vint w64 a ∷ [], (vint w64 entries ∷ [], (sliceVal (b-firsts, o-firsts) (length firsts) ∷ [], (sliceVal (b-starts, o-starts) (length starts) ∷ [], (sliceVal (b-rows, o-rows) (length rows) ∷ [], (sliceVal (b-groups, o-groups) (length groups) ∷ [], (sliceVal (b-words, o-words) (length c4-words) ∷ [], (sliceVal (b-floats, o-floats) (length v-floats) ∷ [], (sliceVal (b-values, o-values) (length v-values) ∷ [], tt)))))))))))))), tt))
+    asked5 : (i : ℕ) (v-words : List ℕ) (v-floats : List Float) (v-values : List Float) (least : ℕ) (m-least : Val) (len-words : length v-words ≡ length words) (len-floats : length v-floats ≡ length floats) (len-values : length v-values ≡ length values) (is-least : Is usize least (m-least ∷ [])) (kept : Going steps ns n a entries firsts starts rows words floats values v-words v-floats v-values least i) (small : i < steps) (u1 : ℕ) (r1 : Val) (is1 : Is usize u1 (r1 ∷ [])) (d1 : u1 ≡ getD (v-words) (namesAt n + i) 0) (u2 : ℕ) (r2 : Val) (is2 : Is usize u2 (r2 ∷ [])) (d2 : u2 ≡ getD (groups) u1 0) (u3 : ℕ) (r3 : Val) (is3 : Is usize u3 (r3 ∷ [])) (d3 : u3 ≡ getD (groups) (suc u1) 0) (c4-words : List ℕ) (d4 : Brought u2 (u3 - u2) n (us) (v-words) (c4-words)) (same4-words : length c4-words ≡ length v-words) (ν5-10 : ℕ) (δ5-10 : GName) (ν5-11 : ℕ) (δ5-11 : GName) (ν5-12 : ℕ) (δ5-12 : GName) → ent 𝓤 (onEntry 𝓤 H A f-turn.signature (κ-firsts, (κ-starts, (κ-rows, (κ-groups, (ν5-10 ∷ [], (ν5-11 ∷ [], (ν5-12 ∷ [], tt))))))) (q-firsts, (q-starts, (q-rows, (q-groups, (fullShare, (fullShare, (fullShare, tt))))))) (u1, (least, (ns, (n, (a, (entries, (ref-firsts γ-firsts firsts, (ref-starts γ-starts starts, (ref-rows γ-rows rows, (ref-groups γ-groups groups, (ref-words δ5-10 c4-words, (ref-floats δ5-11 v-floats, (ref-values δ5-12 v-values, tt))))))))))))) (r1 ∷ [], (m-least ∷ [], (vint w64 ns ∷ [], (vint w64 n ∷ [], (vint w64 a ∷ [], (vint w64 entries ∷ [], (s-firsts ∷ [], (s-starts ∷ [], (s-rows ∷ [], (s-groups ∷ [], (s-words ∷ [], (s-floats ∷ [], (s-values ∷ [], tt)))))))))))))) (C-turn 𝓤 H A mem run .pre (((κ-firsts, (κ-starts, (κ-rows, (κ-groups, (ν5-10 ∷ [], (ν5-11 ∷ [], (ν5-12 ∷ [], tt))))))), (q-firsts, (q-starts, (q-rows, (q-groups, (fullShare, (fullShare, (fullShare, tt))))))), tt, (u1, (least, (ns, (n, (a, (entries, (ref-firsts γ-firsts firsts, (ref-starts γ-starts starts, (ref-rows γ-rows rows, (ref-groups γ-groups groups, (ref-words δ5-10 c4-words, (ref-floats δ5-11 v-floats, (ref-values δ5-12 v-values, tt))))))))))))), (r1 ∷ [], (m-least ∷ [], (vint w64 ns ∷ [], (vint w64 n ∷ [], (vint w64 a ∷ [], (vint w64 entries ∷ [], (s-firsts ∷ [], (s-starts ∷ [], (s-rows ∷ [], (s-groups ∷ [], (s-words ∷ [], (s-floats ∷ [], (s-values ∷ [], tt)))))))))))))), tt))
     asked5 i v-words v-floats v-values least m-least len-words len-floats len-values is-least kept small u1 r1 is1 d1 u2 r2 is2 d2 u3 r3 is3 d3 c4-words d4 same4-words ν5-10 δ5-10 ν5-11 δ5-11 ν5-12 δ5-12 =
-        let need : (Due n (firsts) (starts) (rows) ns a (groups) (c4-words) (v-floats) entries) × (u1 < ns) × (Fetched (laid n (firsts) (starts) (rows)) u1 (groups) (c4-words)) × (entries ≤ length (v-values)) = turn-asked pre kept small d1 d2 d3 d4 same4-words in qed W ((‵ (flft (κ-firsts) q-firsts) ⊛ ‵ (flft (κ-starts) q-starts) ⊛ ‵ (flft (κ-rows) q-rows) ⊛ ‵ (flft (κ-groups) q-groups) ⊛ ‵ (flft (ν5-10 ∷ []) fullShare) ⊛ ‵ (flft (ν5-11 ∷ []) fullShare) ⊛ ‵ (flft (ν5-12 ∷ []) fullShare) ⊛ ‵ ftrue) ∷ ‵ (owns (usize ∷ usize ∷ usize ∷ usize ∷ usize ∷ usize ∷ ShrSlice (named 0) (κ-firsts) usize ∷ ShrSlice (named 1) (κ-starts) usize ∷ ShrSlice (named 2) (κ-rows) usize ∷ ShrSlice (named 3) (κ-groups) usize ∷ MutSlice (named 4) (ν5-10 ∷ []) usize ∷ MutSlice (named 5) (ν5-11 ∷ []) f64 ∷ MutSlice (named 6) (ν5-12 ∷ []) f64 ∷ []) (u1, (least, (ns, (n, (a, (entries, (ref-firsts γ-firsts firsts, (ref-starts γ-starts starts, (ref-rows γ-rows rows, (ref-groups γ-groups groups, (ref-words δ5-10 c4-words, (ref-floats δ5-11 v-floats, (ref-values δ5-12 v-values, tt))))))))))))) (r1 ∷ [], (m-least ∷ [], (vint w64 ns ∷ [], (vint w64 n ∷ [], (vint w64 a ∷ [], (vint w64 entries ∷ [], (sliceVal (b-firsts, o-firsts) (length firsts) ∷ [], (sliceVal (b-starts, o-starts) (length starts) ∷ [], (sliceVal (b-rows, o-rows) (length rows) ∷ [], (sliceVal (b-groups, o-groups) (length groups) ∷ [], (sliceVal (b-words, o-words) (length c4-words) ∷ [], (sliceVal (b-floats, o-floats) (length v-floats) ∷ [], (sliceVal (b-values, o-values) (length v-values) ∷ [], tt)))))))))))))) ∷ []) ∵ w-says ! need $ w-frame ! $ done !
+        let need : (Due n (firsts) (starts) (rows) ns a (groups) (c4-words) (v-floats) entries) × (u1 < ns) × (Fetched (laid n (firsts) (starts) (rows)) u1 (groups) (c4-words)) × (entries ≤ length (v-values)) = turn-asked pre kept small d1 d2 d3 d4 same4-words in qed W ((‵ (flft (κ-firsts) q-firsts) ⊛ ‵ (flft (κ-starts) q-starts) ⊛ ‵ (flft (κ-rows) q-rows) ⊛ ‵ (flft (κ-groups) q-groups) ⊛ ‵ (flft (ν5-10 ∷ []) fullShare) ⊛ ‵ (flft (ν5-11 ∷ []) fullShare) ⊛ ‵ (flft (ν5-12 ∷ []) fullShare) ⊛ ‵ ftrue) ∷ ‵ (owns (usize ∷ usize ∷ usize ∷ usize ∷ usize ∷ usize ∷ ShrSlice (named 0) (κ-firsts) usize ∷ ShrSlice (named 1) (κ-starts) usize ∷ ShrSlice (named 2) (κ-rows) usize ∷ ShrSlice (named 3) (κ-groups) usize ∷ MutSlice (named 4) (ν5-10 ∷ []) usize ∷ MutSlice (named 5) (ν5-11 ∷ []) f64 ∷ MutSlice (named 6) (ν5-12 ∷ []) f64 ∷ []) (u1, (least, (ns, (n, (a, (entries, (ref-firsts γ-firsts firsts, (ref-starts γ-starts starts, (ref-rows γ-rows rows, (ref-groups γ-groups groups, (ref-words δ5-10 c4-words, (ref-floats δ5-11 v-floats, (ref-values δ5-12 v-values, tt))))))))))))) (r1 ∷ [], (m-least ∷ [], (vint w64 ns ∷ [], (vint w64 n ∷ [], (vint w64 a ∷ [], (vint w64 entries ∷ [], (s-firsts ∷ [], (s-starts ∷ [], (s-rows ∷ [], (s-groups ∷ [], (s-words ∷ [], (s-floats ∷ [], (s-values ∷ [], tt)))))))))))))) ∷ []) ∵ w-says ! need $ w-frame ! $ done !
 
     again : (i : ℕ) (v-words : List ℕ) (v-floats : List Float) (v-values : List Float) (least : ℕ) (m-least : Val) (len-words : length v-words ≡ length words) (len-floats : length v-floats ≡ length floats) (len-values : length v-values ≡ length values) (is-least : Is usize least (m-least ∷ [])) (kept : Going steps ns n a entries firsts starts rows words floats values v-words v-floats v-values least i) (small : i < steps) (u1 : ℕ) (r1 : Val) (is1 : Is usize u1 (r1 ∷ [])) (d1 : u1 ≡ getD (v-words) (namesAt n + i) 0) (u2 : ℕ) (r2 : Val) (is2 : Is usize u2 (r2 ∷ [])) (d2 : u2 ≡ getD (groups) u1 0) (u3 : ℕ) (r3 : Val) (is3 : Is usize u3 (r3 ∷ [])) (d3 : u3 ≡ getD (groups) (suc u1) 0) (c4-words : List ℕ) (d4 : Brought u2 (u3 - u2) n (us) (v-words) (c4-words)) (same4-words : length c4-words ≡ length v-words) (u5 : ℕ) (r5 : Val) (is5 : Is usize u5 (r5 ∷ [])) (c5-words : List ℕ) (c5-floats : List Float) (c5-values : List Float) (d5 : (Turned (under n (firsts) (starts) (rows) (drop (parentsAt n) (c4-words))) (lowerValue (drop (startsAt n) (c4-words)) (drop (rowsAt n) (c4-words)) (take a (v-floats))) ns u1 a least u5 (c4-words) (c5-words) (v-floats) (c5-floats) (take entries (v-values)) (take entries (c5-values))) × (drop entries (c5-values) ≡ drop entries (v-values))) (same5-words : length c5-words ≡ length c4-words) (same5-floats : length c5-floats ≡ length v-floats) (same5-values : length c5-values ≡ length v-values) → Going steps ns n a entries firsts starts rows words floats values c5-words c5-floats c5-values u5 (suc i)
     again i v-words v-floats v-values least m-least len-words len-floats len-values is-least kept small u1 r1 is1 d1 u2 r2 is2 d2 u3 r3 is3 d3 c4-words d4 same4-words u5 r5 is5 c5-words c5-floats c5-values d5 same5-words same5-floats same5-values = one-more pre kept small d1 d2 d3 d4 same4-words d5 same5-words same5-floats same5-values
@@ -328,85 +326,75 @@ module _ {M : Type 1} (𝓤 : URA M) (H : Heap 𝓤) (A : Atoms 𝓤) (W : Given
           w-rewrite ! 35 (λ (t : Bool). ‵ (fat fullShare tyBool l19 0 (vbool t))) (holds _ (lt→ltb i steps small)) refl $
           w-stays ! (w-load ! (w-from ! (w-stop !)) (w-look ! 35 refl)) $
           w-assigns ! (w-addr ! (w-from ! (w-fld ! refl (w-hop ! (w-look-in ! 27 (w-sub ! 0 refl (w-whole !))) (w-stop !))))) (w-from ! (w-stop !)) (w-init ! 36 refl (tt, tt)) $ w-assigns ! (w-agg ! (w-and-then ! (w-load ! (w-from ! (w-stop !)) (w-look ! 36 refl)) (w-and-then ! (w-load ! (w-from ! (w-fld ! refl (w-stop !))) (w-look-in ! 27 (w-sub ! 1 refl (w-whole !)))) (w-no-more !)))) (w-from ! (w-stop !)) (w-init ! 37 refl (tt, (tt, (record { fits = room-words .0 }, tt)))) $
-          w-rewrite ! 37 (λ (m : ℕ). ‵ (fat fullShare ty21 l21 0 (sliceVal (b-words, o-words) m))) (sym len-words) refl $
-          w-lft-new ! tt (λ ν1-2. w-rewrite ! 6 (λ (m : ℕ). ‵ (MutSlice (named 5) κ-words usize .own (ref-words γ-words v-words) (sliceVal (b-words, o-words) m ∷ []))) (sym len-words) refl $ w-move ! (6 ∷ 14 ∷ []) $ use2 W (later (some (λ (δ : GName). ‵ (ShrSlice (named 0) (ν1-2 ∷ []) usize .own (ref-words δ v-words) (sliceVal (b-words, o-words) (length v-words) ∷ [])) ⊛ ‵ (LentShared usize κ-words (ν1-2 ∷ []) q-words γ-words b-words o-words v-words)))) (lends-shared usize κ-words (ν1-2 ∷ []) q-words γ-words b-words o-words 𝓤 H A W (named 5) (named 0) v-words) $ w-await ! tt $ w-pick ! (λ δ1-2. w-split ! $
+          w-move ! (5 ∷ 13 ∷ []) $ w-show ! tt usize κ-words q-words γ-words b-words o-words (named 5) (named 0) v-words (length words) len-words (λ ν1-2 δ1-2.
           w-nothing ! $ w-move ! (1 ∷ 0 ∷ []) $ w-fjoin ! $ w-owned ! usize (Is usize) (uint-makes 𝓤 H A W w64) i _ ((refl, fits-turn)) $ w-fjoin ! $ w-owned ! usize (Is usize) (uint-makes 𝓤 H A W w64) n _ ((refl, fits-n)) $ w-fjoin ! $
           w-nothing ! $ w-move ! (3 ∷ 0 ∷ []) $ w-join ! $
-          use2 W (raw (C-name 𝓤 H A mem run .pre (((ν1-2 ∷ [], tt), (fullShare, tt), tt, (n, (i, (ref-words δ1-2 v-words, tt))), (vint w64 n ∷ [], (vint w64 i ∷ [], (sliceVal (b-words, o-words) (length v-words) ∷ [], tt)))), tt))) (asked1 i v-words v-floats v-values least m-least len-words len-floats len-values is-least kept small ν1-2 δ1-2) $
-          w-calls-at ! fm (C-name 𝓤 H A mem run) known-name (((ν1-2 ∷ [], tt), (fullShare, tt), tt, (n, (i, (ref-words δ1-2 v-words, tt))), (vint w64 n ∷ [], (vint w64 i ∷ [], (sliceVal (b-words, o-words) (length v-words) ∷ [], tt)))), tt) (w-and-then ! (w-load ! (w-from ! (w-stop !)) (w-look ! 19 refl)) (w-and-then ! (w-load ! (w-from ! (w-stop !)) (w-look ! 31 refl)) (w-and-then ! (w-load ! (w-from ! (w-stop !)) (w-look ! 37 refl)) (w-no-more !)))) (λ r1.
+          use2 W (raw (C-name 𝓤 H A mem run .pre (((ν1-2 ∷ [], tt), (fullShare, tt), tt, (n, (i, (ref-words δ1-2 v-words, tt))), (vint w64 n ∷ [], (vint w64 i ∷ [], (s-words ∷ [], tt)))), tt))) (asked1 i v-words v-floats v-values least m-least len-words len-floats len-values is-least kept small ν1-2 δ1-2) $
+          w-calls-at ! fm (C-name 𝓤 H A mem run) known-name (((ν1-2 ∷ [], tt), (fullShare, tt), tt, (n, (i, (ref-words δ1-2 v-words, tt))), (vint w64 n ∷ [], (vint w64 i ∷ [], (s-words ∷ [], tt)))), tt) (w-and-then ! (w-load ! (w-from ! (w-stop !)) (w-look ! 19 refl)) (w-and-then ! (w-load ! (w-from ! (w-stop !)) (w-look ! 31 refl)) (w-and-then ! (w-load ! (w-from ! (w-stop !)) (w-look ! 37 refl)) (w-no-more !)))) (λ r1.
           use1 W (later (some (λ (u′ : ℕ). ((‵ (flft (ν1-2 ∷ []) fullShare) ⊛ ‵ ftrue) ⊛ ‵ (usize .own u′ (r1 ∷ []))) ⊛ raw (ensured 𝓤 H A f-name.ended (f-name.clauses 𝓤 H A mem run) (ν1-2 ∷ [], tt) (n, (i, (ref-words δ1-2 v-words, tt))) tt u′)))) (id⊢ 𝓤 _) $ w-await ! tt $ w-pick ! (λ u1.
           w-split ! $ w-move ! (1 ∷ []) $ use1 W (some (λ (zs1 : Unit {0} × (Unit {0} × (Unit {0} × Unit {0}))). ‵ (lasts f-name.ended (ν1-2 ∷ [], tt) (n, (i, (ref-words δ1-2 v-words, tt))) zs1) ⊛ raw (fact 𝓤 (u1 ≡ getD (v-words) (namesAt n + i) 0)))) (id⊢ 𝓤 _) $ w-pick ! (λ zs1. w-split ! $ w-move ! (1 ∷ []) $ w-heard ! (u1 ≡ getD (v-words) (namesAt n + i) 0) (λ d1.
-          w-fsplit ! $ w-drop ! $ w-fsplit ! $ w-drop ! $ w-fsplit ! $ w-drop ! $ w-drop ! $
+          w-past ! $ w-past ! $ w-past ! $ w-drop ! $
           w-split ! $ w-move ! (1 ∷ []) $ w-peeks ! usize (Is usize) (shows 𝓤 H A usize) u1 (r1 ∷ []) (λ is1. w-land ! (w-from ! (w-stop !)) (w-init ! 33 refl (uint-lawful 𝓤 H A W w64 .typed u1 _ is1 .0)) $
-          w-drop ! $ w-split ! $ w-lft-end ! tt $ w-move ! (0 ∷ 2 ∷ []) $ use2 W (later (‵ (MutSlice (named 5) κ-words usize .own (ref-words γ-words v-words) (sliceVal (b-words, o-words) (length v-words) ∷ [])) ⊛ ‵ (flft κ-words q-words))) (shared-back usize κ-words (ν1-2 ∷ []) q-words γ-words b-words o-words 𝓤 H A W (named 5) (named 0) v-words (subst (Room usize) (sym len-words) room-words)) $ w-await ! tt $ w-split ! $
-          w-rewrite ! 0 (λ (m : ℕ). ‵ (MutSlice (named 5) κ-words usize .own (ref-words γ-words v-words) (sliceVal (b-words, o-words) m ∷ []))) len-words refl $
+          w-drop ! $ w-shown ! tt usize κ-words q-words γ-words b-words o-words (named 5) (named 0) v-words (length words) len-words ν1-2 room-words $
           w-move ! (2 ∷ []) $ w-drop ! $
           w-forget ! 36 refl $ w-forget ! 37 refl $ w-move ! (5 ∷ []) $ use1 W (‵ (ShrSlice (named 3) κ-groups usize .own (ref-groups γ-groups groups) (sliceVal (b-groups, o-groups) (length groups) ∷ [])) ⊛ ‵ (ShrSlice (named 3) κ-groups usize .own (ref-groups γ-groups groups) (sliceVal (b-groups, o-groups) (length groups) ∷ []))) (shr-slice-copy 𝓤 H A W (named 3) κ-groups usize .twice (ref-groups γ-groups groups) (s-groups ∷ [])) $ w-split ! $
           w-nothing ! $ w-move ! (1 ∷ 0 ∷ []) $ w-fjoin ! $ w-owned ! usize (Is usize) (uint-makes 𝓤 H A W w64) u1 _ is1 $ w-fjoin ! $
           w-nothing ! $ w-move ! (14 ∷ 0 ∷ []) $ w-join ! $
-          use2 W (raw (C-group 𝓤 H A mem run .pre (((κ-groups, tt), (q-groups, tt), tt, (u1, (ref-groups γ-groups groups, tt)), (r1 ∷ [], (sliceVal (b-groups, o-groups) (length groups) ∷ [], tt))), tt))) (asked2 i v-words v-floats v-values least m-least len-words len-floats len-values is-least kept small u1 r1 is1 d1) $
-          w-calls-at ! fm (C-group 𝓤 H A mem run) known-group (((κ-groups, tt), (q-groups, tt), tt, (u1, (ref-groups γ-groups groups, tt)), (r1 ∷ [], (sliceVal (b-groups, o-groups) (length groups) ∷ [], tt))), tt) (w-and-then ! (w-load ! (w-from ! (w-stop !)) (w-look ! 32 refl)) (w-and-then ! (w-load ! (w-from ! (w-stop !)) (w-look ! 25 refl)) (w-no-more !))) (λ r2.
+          use2 W (raw (C-group 𝓤 H A mem run .pre (((κ-groups, tt), (q-groups, tt), tt, (u1, (ref-groups γ-groups groups, tt)), (r1 ∷ [], (s-groups ∷ [], tt))), tt))) (asked2 i v-words v-floats v-values least m-least len-words len-floats len-values is-least kept small u1 r1 is1 d1) $
+          w-calls-at ! fm (C-group 𝓤 H A mem run) known-group (((κ-groups, tt), (q-groups, tt), tt, (u1, (ref-groups γ-groups groups, tt)), (r1 ∷ [], (s-groups ∷ [], tt))), tt) (w-and-then ! (w-load ! (w-from ! (w-stop !)) (w-look ! 32 refl)) (w-and-then ! (w-load ! (w-from ! (w-stop !)) (w-look ! 25 refl)) (w-no-more !))) (λ r2.
           use1 W (later (some (λ (u′ : ℕ). ((‵ (flft (κ-groups) q-groups) ⊛ ‵ ftrue) ⊛ ‵ (usize .own u′ (r2 ∷ []))) ⊛ raw (ensured 𝓤 H A f-group.ended (f-group.clauses 𝓤 H A mem run) (κ-groups, tt) (u1, (ref-groups γ-groups groups, tt)) tt u′)))) (id⊢ 𝓤 _) $ w-await ! tt $ w-pick ! (λ u2.
           w-split ! $ w-move ! (1 ∷ []) $ use1 W (some (λ (zs2 : Unit {0} × (Unit {0} × Unit {0})). ‵ (lasts f-group.ended (κ-groups, tt) (u1, (ref-groups γ-groups groups, tt)) zs2) ⊛ raw (fact 𝓤 (u2 ≡ getD (groups) u1 0)))) (id⊢ 𝓤 _) $ w-pick ! (λ zs2. w-split ! $ w-move ! (1 ∷ []) $ w-heard ! (u2 ≡ getD (groups) u1 0) (λ d2.
-          w-fsplit ! $ w-drop ! $ w-fsplit ! $ w-drop ! $ w-drop ! $
+          w-past ! $ w-past ! $ w-drop ! $
           w-split ! $ w-move ! (1 ∷ []) $ w-peeks ! usize (Is usize) (shows 𝓤 H A usize) u2 (r2 ∷ []) (λ is2. w-land ! (w-from ! (w-stop !)) (w-init ! 34 refl (uint-lawful 𝓤 H A W w64 .typed u2 _ is2 .0)) $
           w-drop ! $ w-split ! $ w-move ! (1 ∷ []) $ w-drop ! $
           w-move ! (1 ∷ []) $ use1 W (‵ (ShrSlice (named 3) κ-groups usize .own (ref-groups γ-groups groups) (sliceVal (b-groups, o-groups) (length groups) ∷ [])) ⊛ ‵ (ShrSlice (named 3) κ-groups usize .own (ref-groups γ-groups groups) (sliceVal (b-groups, o-groups) (length groups) ∷ []))) (shr-slice-copy 𝓤 H A W (named 3) κ-groups usize .twice (ref-groups γ-groups groups) (s-groups ∷ [])) $ w-split ! $
           w-nothing ! $ w-move ! (1 ∷ 0 ∷ []) $ w-fjoin ! $ w-owned ! usize (Is usize) (uint-makes 𝓤 H A W w64) u1 _ is1 $ w-fjoin ! $
           w-nothing ! $ w-move ! (3 ∷ 0 ∷ []) $ w-join ! $
-          use2 W (raw (C-group-end 𝓤 H A mem run .pre (((κ-groups, tt), (q-groups, tt), tt, (u1, (ref-groups γ-groups groups, tt)), (r1 ∷ [], (sliceVal (b-groups, o-groups) (length groups) ∷ [], tt))), tt))) (asked3 i v-words v-floats v-values least m-least len-words len-floats len-values is-least kept small u1 r1 is1 d1 u2 r2 is2 d2) $
-          w-calls-at ! fm (C-group-end 𝓤 H A mem run) known-group-end (((κ-groups, tt), (q-groups, tt), tt, (u1, (ref-groups γ-groups groups, tt)), (r1 ∷ [], (sliceVal (b-groups, o-groups) (length groups) ∷ [], tt))), tt) (w-and-then ! (w-load ! (w-from ! (w-stop !)) (w-look ! 32 refl)) (w-and-then ! (w-load ! (w-from ! (w-stop !)) (w-look ! 25 refl)) (w-no-more !))) (λ r3.
+          use2 W (raw (C-group-end 𝓤 H A mem run .pre (((κ-groups, tt), (q-groups, tt), tt, (u1, (ref-groups γ-groups groups, tt)), (r1 ∷ [], (s-groups ∷ [], tt))), tt))) (asked3 i v-words v-floats v-values least m-least len-words len-floats len-values is-least kept small u1 r1 is1 d1 u2 r2 is2 d2) $
+          w-calls-at ! fm (C-group-end 𝓤 H A mem run) known-group-end (((κ-groups, tt), (q-groups, tt), tt, (u1, (ref-groups γ-groups groups, tt)), (r1 ∷ [], (s-groups ∷ [], tt))), tt) (w-and-then ! (w-load ! (w-from ! (w-stop !)) (w-look ! 32 refl)) (w-and-then ! (w-load ! (w-from ! (w-stop !)) (w-look ! 25 refl)) (w-no-more !))) (λ r3.
           use1 W (later (some (λ (u′ : ℕ). ((‵ (flft (κ-groups) q-groups) ⊛ ‵ ftrue) ⊛ ‵ (usize .own u′ (r3 ∷ []))) ⊛ raw (ensured 𝓤 H A f-group-end.ended (f-group-end.clauses 𝓤 H A mem run) (κ-groups, tt) (u1, (ref-groups γ-groups groups, tt)) tt u′)))) (id⊢ 𝓤 _) $ w-await ! tt $ w-pick ! (λ u3.
           w-split ! $ w-move ! (1 ∷ []) $ use1 W (some (λ (zs3 : Unit {0} × (Unit {0} × Unit {0})). ‵ (lasts f-group-end.ended (κ-groups, tt) (u1, (ref-groups γ-groups groups, tt)) zs3) ⊛ raw (fact 𝓤 (u3 ≡ getD (groups) (suc u1) 0)))) (id⊢ 𝓤 _) $ w-pick ! (λ zs3. w-split ! $ w-move ! (1 ∷ []) $ w-heard ! (u3 ≡ getD (groups) (suc u1) 0) (λ d3.
-          w-fsplit ! $ w-drop ! $ w-fsplit ! $ w-drop ! $ w-drop ! $
+          w-past ! $ w-past ! $ w-drop ! $
           w-split ! $ w-move ! (1 ∷ []) $ w-peeks ! usize (Is usize) (shows 𝓤 H A usize) u3 (r3 ∷ []) (λ is3. w-land ! (w-from ! (w-stop !)) (w-init ! 35 refl (uint-lawful 𝓤 H A W w64 .typed u3 _ is3 .0)) $
           w-drop ! $ w-split ! $ w-move ! (1 ∷ []) $ w-drop ! $
           w-assigns ! (w-addr ! (w-from ! (w-fld ! refl (w-hop ! (w-look-in ! 27 (w-sub ! 0 refl (w-whole !))) (w-stop !))))) (w-from ! (w-stop !)) (w-init ! 39 refl (tt, tt)) $ w-assigns ! (w-agg ! (w-and-then ! (w-load ! (w-from ! (w-stop !)) (w-look ! 39 refl)) (w-and-then ! (w-load ! (w-from ! (w-fld ! refl (w-stop !))) (w-look-in ! 27 (w-sub ! 1 refl (w-whole !)))) (w-no-more !)))) (w-from ! (w-stop !)) (w-init ! 40 refl (tt, (tt, (record { fits = room-words .0 }, tt)))) $
-          w-rewrite ! 40 (λ (m : ℕ). ‵ (fat fullShare ty24 l24 0 (sliceVal (b-words, o-words) m))) (sym len-words) refl $
           w-move ! (7 ∷ []) $ use1 W (‵ (ShrSlice (named 4) κ-us T-Update.the-row .own (ref-us γ-us us) (sliceVal (b-us, o-us) (length us) ∷ [])) ⊛ ‵ (ShrSlice (named 4) κ-us T-Update.the-row .own (ref-us γ-us us) (sliceVal (b-us, o-us) (length us) ∷ []))) (shr-slice-copy 𝓤 H A W (named 4) κ-us T-Update.the-row .twice (ref-us γ-us us) (s-us ∷ [])) $ w-split ! $
-          w-lft-new ! tt (λ ν4-4. w-rewrite ! 5 (λ (m : ℕ). ‵ (MutSlice (named 5) κ-words usize .own (ref-words γ-words v-words) (sliceVal (b-words, o-words) m ∷ []))) (sym len-words) refl $ w-move ! (5 ∷ 6 ∷ []) $ use2 W (later (some (λ (δ : GName). ‵ (MutSlice (named 1) (ν4-4 ∷ []) usize .own (ref-words δ v-words) (sliceVal (b-words, o-words) (length v-words) ∷ [])) ⊛ ‵ (LentAgain usize κ-words (ν4-4 ∷ []) q-words γ-words b-words o-words δ v-words)))) (lends-again usize κ-words (ν4-4 ∷ []) q-words γ-words b-words o-words 𝓤 H A W (named 5) (named 1) v-words) $ w-await ! tt $ w-pick ! (λ δ4-4. w-split ! $
+          w-move ! (4 ∷ 5 ∷ []) $ w-lend ! tt usize κ-words q-words γ-words b-words o-words (named 5) (named 1) v-words (length words) len-words (λ ν4-4 δ4-4.
           w-nothing ! $ w-move ! (1 ∷ 0 ∷ []) $ w-fjoin ! $ w-move ! (3 ∷ 0 ∷ []) $ w-fjoin ! $ w-owned ! usize (Is usize) (uint-makes 𝓤 H A W w64) n _ ((refl, fits-n)) $ w-fjoin ! $ w-owned ! usize (Is usize) (uint-makes 𝓤 H A W w64) u3 _ is3 $ w-fjoin ! $ w-owned ! usize (Is usize) (uint-makes 𝓤 H A W w64) u2 _ is2 $ w-fjoin ! $
           w-nothing ! $ w-move ! (3 ∷ 0 ∷ []) $ w-join ! $ w-move ! (14 ∷ 0 ∷ []) $ w-join ! $
-          use2 W (raw (C-fetch 𝓤 H A mem run .pre (((κ-us, (ν4-4 ∷ [], tt)), (q-us, (fullShare, tt)), tt, (u2, (u3, (n, (ref-us γ-us us, (ref-words δ4-4 v-words, tt))))), (r2 ∷ [], (r3 ∷ [], (vint w64 n ∷ [], (sliceVal (b-us, o-us) (length us) ∷ [], (sliceVal (b-words, o-words) (length v-words) ∷ [], tt)))))), tt))) (asked4 i v-words v-floats v-values least m-least len-words len-floats len-values is-least kept small u1 r1 is1 d1 u2 r2 is2 d2 u3 r3 is3 d3 ν4-4 δ4-4) $
-          w-calls-at ! fm (C-fetch 𝓤 H A mem run) known-fetch (((κ-us, (ν4-4 ∷ [], tt)), (q-us, (fullShare, tt)), tt, (u2, (u3, (n, (ref-us γ-us us, (ref-words δ4-4 v-words, tt))))), (r2 ∷ [], (r3 ∷ [], (vint w64 n ∷ [], (sliceVal (b-us, o-us) (length us) ∷ [], (sliceVal (b-words, o-words) (length v-words) ∷ [], tt)))))), tt) (w-and-then ! (w-load ! (w-from ! (w-stop !)) (w-look ! 32 refl)) (w-and-then ! (w-load ! (w-from ! (w-stop !)) (w-look ! 33 refl)) (w-and-then ! (w-load ! (w-from ! (w-stop !)) (w-look ! 18 refl)) (w-and-then ! (w-load ! (w-from ! (w-stop !)) (w-look ! 25 refl)) (w-and-then ! (w-load ! (w-from ! (w-stop !)) (w-look ! 39 refl)) (w-no-more !)))))) (λ r4.
+          use2 W (raw (C-fetch 𝓤 H A mem run .pre (((κ-us, (ν4-4 ∷ [], tt)), (q-us, (fullShare, tt)), tt, (u2, (u3, (n, (ref-us γ-us us, (ref-words δ4-4 v-words, tt))))), (r2 ∷ [], (r3 ∷ [], (vint w64 n ∷ [], (s-us ∷ [], (s-words ∷ [], tt)))))), tt))) (asked4 i v-words v-floats v-values least m-least len-words len-floats len-values is-least kept small u1 r1 is1 d1 u2 r2 is2 d2 u3 r3 is3 d3 ν4-4 δ4-4) $
+          w-calls-at ! fm (C-fetch 𝓤 H A mem run) known-fetch (((κ-us, (ν4-4 ∷ [], tt)), (q-us, (fullShare, tt)), tt, (u2, (u3, (n, (ref-us γ-us us, (ref-words δ4-4 v-words, tt))))), (r2 ∷ [], (r3 ∷ [], (vint w64 n ∷ [], (s-us ∷ [], (s-words ∷ [], tt)))))), tt) (w-and-then ! (w-load ! (w-from ! (w-stop !)) (w-look ! 32 refl)) (w-and-then ! (w-load ! (w-from ! (w-stop !)) (w-look ! 33 refl)) (w-and-then ! (w-load ! (w-from ! (w-stop !)) (w-look ! 18 refl)) (w-and-then ! (w-load ! (w-from ! (w-stop !)) (w-look ! 25 refl)) (w-and-then ! (w-load ! (w-from ! (w-stop !)) (w-look ! 39 refl)) (w-no-more !)))))) (λ r4.
           use1 W (later (some (λ (u′ : Unit {0}). ((‵ (flft (κ-us) q-us) ⊛ ‵ (flft (ν4-4 ∷ []) fullShare) ⊛ ‵ ftrue) ⊛ ‵ (Nothing .own u′ (r4 ∷ []))) ⊛ raw (ensured 𝓤 H A f-fetch.ended (f-fetch.clauses 𝓤 H A mem run) (κ-us, (ν4-4 ∷ [], tt)) (u2, (u3, (n, (ref-us γ-us us, (ref-words δ4-4 v-words, tt))))) tt u′)))) (id⊢ 𝓤 _) $ w-await ! tt $ w-pick ! (λ u4.
           w-split ! $ w-move ! (1 ∷ []) $ use1 W (some (λ (zs4 : Unit {0} × (Unit {0} × (Unit {0} × (Unit {0} × (List ℕ × Unit {0}))))). ‵ (lasts f-fetch.ended (κ-us, (ν4-4 ∷ [], tt)) (u2, (u3, (n, (ref-us γ-us us, (ref-words δ4-4 v-words, tt))))) zs4) ⊛ raw (fact 𝓤 (Brought u2 (u3 - u2) n (us) (v-words) ((zs4 .1 .1 .1 .1 .0)))))) (id⊢ 𝓤 _) $ w-pick ! (λ zs4. w-split ! $ w-move ! (1 ∷ []) $ w-heard ! (Brought u2 (u3 - u2) n (us) (v-words) ((zs4 .1 .1 .1 .1 .0))) (λ d4.
-          w-fsplit ! $ w-drop ! $ w-fsplit ! $ w-drop ! $ w-fsplit ! $ w-drop ! $ w-fsplit ! $ w-drop ! $ w-fsplit ! $ w-fsplit ! $ w-move ! (1 ∷ []) $ w-feqL ! (λ same4-words. w-move ! (1 ∷ []) $ w-drop ! $
+          w-past ! $ w-past ! $ w-past ! $ w-past ! $ w-last ! (λ same4-words. w-move ! (1 ∷ []) $ w-drop ! $
           w-move ! (1 ∷ []) $ w-split ! $ w-move ! (1 ∷ []) $ w-peeks ! Nothing (Is Nothing) (shows 𝓤 H A Nothing) u4 (r4 ∷ []) (λ is4. w-land ! (w-from ! (w-stop !)) (w-init ! 39 refl (nothing-lawful 𝓤 H A W .typed u4 _ is4 .0)) $
-          w-drop ! $ w-split ! $ w-move ! (1 ∷ []) $ w-split ! $ w-lft-end ! tt $ w-move ! (0 ∷ 4 ∷ 3 ∷ []) $ use3 W (later (‵ (MutSlice (named 5) κ-words usize .own (ref-words γ-words (zs4 .1 .1 .1 .1 .0)) (sliceVal (b-words, o-words) (length v-words) ∷ [])) ⊛ ‵ (flft κ-words q-words))) (comes-back usize κ-words (ν4-4 ∷ []) q-words γ-words b-words o-words 𝓤 H A W (named 5) (named 1) v-words δ4-4 (zs4 .1 .1 .1 .1 .0) (subst (Room usize) (sym len-words) room-words) same4-words) $ w-await ! tt $ w-split ! $
-          w-rewrite ! 0 (λ (m : ℕ). ‵ (MutSlice (named 5) κ-words usize .own (ref-words γ-words (zs4 .1 .1 .1 .1 .0)) (sliceVal (b-words, o-words) m ∷ []))) len-words refl $
+          w-drop ! $ w-split ! $ w-move ! (1 ∷ 3 ∷ 2 ∷ []) $ w-back ! tt usize κ-words q-words γ-words b-words o-words (named 5) (named 1) v-words (length words) len-words ν4-4 δ4-4 (zs4 .1 .1 .1 .1 .0) room-words same4-words $
           w-move ! (2 ∷ []) $ w-drop ! $
           w-forget ! 38 refl $ w-forget ! 39 refl $ w-forget ! 40 refl $ w-assigns ! (w-addr ! (w-from ! (w-fld ! refl (w-hop ! (w-look-in ! 27 (w-sub ! 0 refl (w-whole !))) (w-stop !))))) (w-from ! (w-stop !)) (w-init ! 41 refl (tt, tt)) $ w-assigns ! (w-agg ! (w-and-then ! (w-load ! (w-from ! (w-stop !)) (w-look ! 41 refl)) (w-and-then ! (w-load ! (w-from ! (w-fld ! refl (w-stop !))) (w-look-in ! 27 (w-sub ! 1 refl (w-whole !)))) (w-no-more !)))) (w-from ! (w-stop !)) (w-init ! 42 refl (tt, (tt, (record { fits = room-words .0 }, tt)))) $
-          w-rewrite ! 42 (λ (m : ℕ). ‵ (fat fullShare ty26 l26 0 (sliceVal (b-words, o-words) m))) (sym (same4-words ∙ len-words)) refl $
           w-assigns ! (w-addr ! (w-from ! (w-fld ! refl (w-hop ! (w-look-in ! 28 (w-sub ! 0 refl (w-whole !))) (w-stop !))))) (w-from ! (w-stop !)) (w-init ! 43 refl (tt, tt)) $ w-assigns ! (w-agg ! (w-and-then ! (w-load ! (w-from ! (w-stop !)) (w-look ! 43 refl)) (w-and-then ! (w-load ! (w-from ! (w-fld ! refl (w-stop !))) (w-look-in ! 28 (w-sub ! 1 refl (w-whole !)))) (w-no-more !)))) (w-from ! (w-stop !)) (w-init ! 44 refl (tt, (tt, (record { fits = room-floats .0 }, tt)))) $
-          w-rewrite ! 44 (λ (m : ℕ). ‵ (fat fullShare ty28 l28 0 (sliceVal (b-floats, o-floats) m))) (sym len-floats) refl $
           w-assigns ! (w-addr ! (w-from ! (w-fld ! refl (w-hop ! (w-look-in ! 29 (w-sub ! 0 refl (w-whole !))) (w-stop !))))) (w-from ! (w-stop !)) (w-init ! 45 refl (tt, tt)) $ w-assigns ! (w-agg ! (w-and-then ! (w-load ! (w-from ! (w-stop !)) (w-look ! 45 refl)) (w-and-then ! (w-load ! (w-from ! (w-fld ! refl (w-stop !))) (w-look-in ! 29 (w-sub ! 1 refl (w-whole !)))) (w-no-more !)))) (w-from ! (w-stop !)) (w-init ! 46 refl (tt, (tt, (record { fits = room-values .0 }, tt)))) $
-          w-rewrite ! 46 (λ (m : ℕ). ‵ (fat fullShare ty30 l30 0 (sliceVal (b-values, o-values) m))) (sym len-values) refl $
           w-move ! (6 ∷ []) $ use1 W (‵ (ShrSlice (named 0) κ-firsts usize .own (ref-firsts γ-firsts firsts) (sliceVal (b-firsts, o-firsts) (length firsts) ∷ [])) ⊛ ‵ (ShrSlice (named 0) κ-firsts usize .own (ref-firsts γ-firsts firsts) (sliceVal (b-firsts, o-firsts) (length firsts) ∷ []))) (shr-slice-copy 𝓤 H A W (named 0) κ-firsts usize .twice (ref-firsts γ-firsts firsts) (s-firsts ∷ [])) $ w-split ! $
           w-move ! (8 ∷ []) $ use1 W (‵ (ShrSlice (named 1) κ-starts usize .own (ref-starts γ-starts starts) (sliceVal (b-starts, o-starts) (length starts) ∷ [])) ⊛ ‵ (ShrSlice (named 1) κ-starts usize .own (ref-starts γ-starts starts) (sliceVal (b-starts, o-starts) (length starts) ∷ []))) (shr-slice-copy 𝓤 H A W (named 1) κ-starts usize .twice (ref-starts γ-starts starts) (s-starts ∷ [])) $ w-split ! $
           w-move ! (10 ∷ []) $ use1 W (‵ (ShrSlice (named 2) κ-rows usize .own (ref-rows γ-rows rows) (sliceVal (b-rows, o-rows) (length rows) ∷ [])) ⊛ ‵ (ShrSlice (named 2) κ-rows usize .own (ref-rows γ-rows rows) (sliceVal (b-rows, o-rows) (length rows) ∷ []))) (shr-slice-copy 𝓤 H A W (named 2) κ-rows usize .twice (ref-rows γ-rows rows) (s-rows ∷ [])) $ w-split ! $
           w-move ! (11 ∷ []) $ use1 W (‵ (ShrSlice (named 3) κ-groups usize .own (ref-groups γ-groups groups) (sliceVal (b-groups, o-groups) (length groups) ∷ [])) ⊛ ‵ (ShrSlice (named 3) κ-groups usize .own (ref-groups γ-groups groups) (sliceVal (b-groups, o-groups) (length groups) ∷ []))) (shr-slice-copy 𝓤 H A W (named 3) κ-groups usize .twice (ref-groups γ-groups groups) (s-groups ∷ [])) $ w-split ! $
-          w-lft-new ! tt (λ ν5-10. w-rewrite ! 9 (λ (m : ℕ). ‵ (MutSlice (named 5) κ-words usize .own (ref-words γ-words (zs4 .1 .1 .1 .1 .0)) (sliceVal (b-words, o-words) m ∷ []))) (sym (same4-words ∙ len-words)) refl $ w-move ! (9 ∷ 10 ∷ []) $ use2 W (later (some (λ (δ : GName). ‵ (MutSlice (named 4) (ν5-10 ∷ []) usize .own (ref-words δ (zs4 .1 .1 .1 .1 .0)) (sliceVal (b-words, o-words) (length (zs4 .1 .1 .1 .1 .0)) ∷ [])) ⊛ ‵ (LentAgain usize κ-words (ν5-10 ∷ []) q-words γ-words b-words o-words δ (zs4 .1 .1 .1 .1 .0))))) (lends-again usize κ-words (ν5-10 ∷ []) q-words γ-words b-words o-words 𝓤 H A W (named 5) (named 4) (zs4 .1 .1 .1 .1 .0)) $ w-await ! tt $ w-pick ! (λ δ5-10. w-split ! $
-          w-lft-new ! tt (λ ν5-11. w-rewrite ! 15 (λ (m : ℕ). ‵ (MutSlice (named 6) κ-floats f64 .own (ref-floats γ-floats v-floats) (sliceVal (b-floats, o-floats) m ∷ []))) (sym len-floats) refl $ w-move ! (15 ∷ 20 ∷ []) $ use2 W (later (some (λ (δ : GName). ‵ (MutSlice (named 5) (ν5-11 ∷ []) f64 .own (ref-floats δ v-floats) (sliceVal (b-floats, o-floats) (length v-floats) ∷ [])) ⊛ ‵ (LentAgain f64 κ-floats (ν5-11 ∷ []) q-floats γ-floats b-floats o-floats δ v-floats)))) (lends-again f64 κ-floats (ν5-11 ∷ []) q-floats γ-floats b-floats o-floats 𝓤 H A W (named 6) (named 5) v-floats) $ w-await ! tt $ w-pick ! (λ δ5-11. w-split ! $
-          w-lft-new ! tt (λ ν5-12. w-rewrite ! 18 (λ (m : ℕ). ‵ (MutSlice (named 7) κ-values f64 .own (ref-values γ-values v-values) (sliceVal (b-values, o-values) m ∷ []))) (sym len-values) refl $ w-move ! (18 ∷ 22 ∷ []) $ use2 W (later (some (λ (δ : GName). ‵ (MutSlice (named 6) (ν5-12 ∷ []) f64 .own (ref-values δ v-values) (sliceVal (b-values, o-values) (length v-values) ∷ [])) ⊛ ‵ (LentAgain f64 κ-values (ν5-12 ∷ []) q-values γ-values b-values o-values δ v-values)))) (lends-again f64 κ-values (ν5-12 ∷ []) q-values γ-values b-values o-values 𝓤 H A W (named 7) (named 6) v-values) $ w-await ! tt $ w-pick ! (λ δ5-12. w-split ! $
+          w-move ! (8 ∷ 9 ∷ []) $ w-lend ! tt usize κ-words q-words γ-words b-words o-words (named 5) (named 4) (zs4 .1 .1 .1 .1 .0) (length words) (same4-words ∙ len-words) (λ ν5-10 δ5-10.
+          w-move ! (14 ∷ 19 ∷ []) $ w-lend ! tt f64 κ-floats q-floats γ-floats b-floats o-floats (named 6) (named 5) v-floats (length floats) len-floats (λ ν5-11 δ5-11.
+          w-move ! (17 ∷ 21 ∷ []) $ w-lend ! tt f64 κ-values q-values γ-values b-values o-values (named 7) (named 6) v-values (length values) len-values (λ ν5-12 δ5-12.
           w-nothing ! $ w-move ! (1 ∷ 0 ∷ []) $ w-fjoin ! $ w-move ! (3 ∷ 0 ∷ []) $ w-fjoin ! $ w-move ! (5 ∷ 0 ∷ []) $ w-fjoin ! $ w-move ! (7 ∷ 0 ∷ []) $ w-fjoin ! $ w-move ! (8 ∷ 0 ∷ []) $ w-fjoin ! $ w-move ! (9 ∷ 0 ∷ []) $ w-fjoin ! $ w-move ! (10 ∷ 0 ∷ []) $ w-fjoin ! $ w-owned ! usize (Is usize) (uint-makes 𝓤 H A W w64) entries _ ((refl, fits-entries)) $ w-fjoin ! $ w-owned ! usize (Is usize) (uint-makes 𝓤 H A W w64) a _ ((refl, fits-a)) $ w-fjoin ! $ w-owned ! usize (Is usize) (uint-makes 𝓤 H A W w64) n _ ((refl, fits-n)) $ w-fjoin ! $ w-owned ! usize (Is usize) (uint-makes 𝓤 H A W w64) ns _ ((refl, fits-ns)) $ w-fjoin ! $ w-owned ! usize (Is usize) (uint-makes 𝓤 H A W w64) least _ is-least $ w-fjoin ! $ w-owned ! usize (Is usize) (uint-makes 𝓤 H A W w64) u1 _ is1 $ w-fjoin ! $
           w-nothing ! $ w-move ! (3 ∷ 0 ∷ []) $ w-join ! $ w-move ! (4 ∷ 0 ∷ []) $ w-join ! $ w-move ! (5 ∷ 0 ∷ []) $ w-join ! $ w-move ! (11 ∷ 0 ∷ []) $ w-join ! $ w-move ! (13 ∷ 0 ∷ []) $ w-join ! $ w-move ! (12 ∷ 0 ∷ []) $ w-join ! $ w-move ! (11 ∷ 0 ∷ []) $ w-join ! $
-          use2 W (raw (C-turn 𝓤 H A mem run .pre (((κ-firsts, (κ-starts, (κ-rows, (κ-groups, (ν5-10 ∷ [], (ν5-11 ∷ [], (ν5-12 ∷ [], tt))))))), (q-firsts, (q-starts, (q-rows, (q-groups, (fullShare, (fullShare, (fullShare, tt))))))), tt, (u1, (least, (ns, (n, (a, (entries, (ref-firsts γ-firsts firsts, (ref-starts γ-starts starts, (ref-rows γ-rows rows, (ref-groups γ-groups groups, (ref-words δ5-10 (zs4 .1 .1 .1 .1 .0), (ref-floats δ5-11 v-floats, (ref-values δ5-12 v-values, tt))))))))))))), (r1 ∷ [], (m-least ∷ [], (vint w64 ns ∷ [], (vint w64 n ∷ [], (vint w64 a ∷ [], (vint w64 entries ∷ [], (sliceVal (b-firsts, o-firsts) (length firsts) ∷ [], (sliceVal (b-starts, o-starts) (length starts) ∷ [], (sliceVal (b-rows, o-rows) (length rows) ∷ [], (sliceVal (b-groups, o-groups) (length groups) ∷ [], (sliceVal (b-words, o-words) (length (zs4 .1 .1 .1 .1 .0)) ∷ [], (sliceVal (b-floats, o-floats) (length v-floats) ∷ [], (sliceVal (b-values, o-values) (length v-values) ∷ [], tt)))))))))))))), tt))) (asked5 i v-words v-floats v-values least m-least len-words len-floats len-values is-least kept small u1 r1 is1 d1 u2 r2 is2 d2 u3 r3 is3 d3 (zs4 .1 .1 .1 .1 .0) d4 same4-words ν5-10 δ5-10 ν5-11 δ5-11 ν5-12 δ5-12) $
-          w-calls-at ! fm (C-turn 𝓤 H A mem run) known-turn (((κ-firsts, (κ-starts, (κ-rows, (κ-groups, (ν5-10 ∷ [], (ν5-11 ∷ [], (ν5-12 ∷ [], tt))))))), (q-firsts, (q-starts, (q-rows, (q-groups, (fullShare, (fullShare, (fullShare, tt))))))), tt, (u1, (least, (ns, (n, (a, (entries, (ref-firsts γ-firsts firsts, (ref-starts γ-starts starts, (ref-rows γ-rows rows, (ref-groups γ-groups groups, (ref-words δ5-10 (zs4 .1 .1 .1 .1 .0), (ref-floats δ5-11 v-floats, (ref-values δ5-12 v-values, tt))))))))))))), (r1 ∷ [], (m-least ∷ [], (vint w64 ns ∷ [], (vint w64 n ∷ [], (vint w64 a ∷ [], (vint w64 entries ∷ [], (sliceVal (b-firsts, o-firsts) (length firsts) ∷ [], (sliceVal (b-starts, o-starts) (length starts) ∷ [], (sliceVal (b-rows, o-rows) (length rows) ∷ [], (sliceVal (b-groups, o-groups) (length groups) ∷ [], (sliceVal (b-words, o-words) (length (zs4 .1 .1 .1 .1 .0)) ∷ [], (sliceVal (b-floats, o-floats) (length v-floats) ∷ [], (sliceVal (b-values, o-values) (length v-values) ∷ [], tt)))))))))))))), tt) (w-and-then ! (w-load ! (w-from ! (w-stop !)) (w-look ! 26 refl)) (w-and-then ! (w-load ! (w-from ! (w-stop !)) (w-look ! 24 refl)) (w-and-then ! (w-load ! (w-from ! (w-stop !)) (w-look ! 12 refl)) (w-and-then ! (w-load ! (w-from ! (w-stop !)) (w-look ! 13 refl)) (w-and-then ! (w-load ! (w-from ! (w-stop !)) (w-look ! 14 refl)) (w-and-then ! (w-load ! (w-from ! (w-stop !)) (w-look ! 15 refl)) (w-and-then ! (w-load ! (w-from ! (w-stop !)) (w-look ! 16 refl)) (w-and-then ! (w-load ! (w-from ! (w-stop !)) (w-look ! 17 refl)) (w-and-then ! (w-load ! (w-from ! (w-stop !)) (w-look ! 18 refl)) (w-and-then ! (w-load ! (w-from ! (w-stop !)) (w-look ! 19 refl)) (w-and-then ! (w-load ! (w-from ! (w-stop !)) (w-look ! 36 refl)) (w-and-then ! (w-load ! (w-from ! (w-stop !)) (w-look ! 38 refl)) (w-and-then ! (w-load ! (w-from ! (w-stop !)) (w-look ! 40 refl)) (w-no-more !)))))))))))))) (λ r5.
+          use2 W (raw (C-turn 𝓤 H A mem run .pre (((κ-firsts, (κ-starts, (κ-rows, (κ-groups, (ν5-10 ∷ [], (ν5-11 ∷ [], (ν5-12 ∷ [], tt))))))), (q-firsts, (q-starts, (q-rows, (q-groups, (fullShare, (fullShare, (fullShare, tt))))))), tt, (u1, (least, (ns, (n, (a, (entries, (ref-firsts γ-firsts firsts, (ref-starts γ-starts starts, (ref-rows γ-rows rows, (ref-groups γ-groups groups, (ref-words δ5-10 (zs4 .1 .1 .1 .1 .0), (ref-floats δ5-11 v-floats, (ref-values δ5-12 v-values, tt))))))))))))), (r1 ∷ [], (m-least ∷ [], (vint w64 ns ∷ [], (vint w64 n ∷ [], (vint w64 a ∷ [], (vint w64 entries ∷ [], (s-firsts ∷ [], (s-starts ∷ [], (s-rows ∷ [], (s-groups ∷ [], (s-words ∷ [], (s-floats ∷ [], (s-values ∷ [], tt)))))))))))))), tt))) (asked5 i v-words v-floats v-values least m-least len-words len-floats len-values is-least kept small u1 r1 is1 d1 u2 r2 is2 d2 u3 r3 is3 d3 (zs4 .1 .1 .1 .1 .0) d4 same4-words ν5-10 δ5-10 ν5-11 δ5-11 ν5-12 δ5-12) $
+          w-calls-at ! fm (C-turn 𝓤 H A mem run) known-turn (((κ-firsts, (κ-starts, (κ-rows, (κ-groups, (ν5-10 ∷ [], (ν5-11 ∷ [], (ν5-12 ∷ [], tt))))))), (q-firsts, (q-starts, (q-rows, (q-groups, (fullShare, (fullShare, (fullShare, tt))))))), tt, (u1, (least, (ns, (n, (a, (entries, (ref-firsts γ-firsts firsts, (ref-starts γ-starts starts, (ref-rows γ-rows rows, (ref-groups γ-groups groups, (ref-words δ5-10 (zs4 .1 .1 .1 .1 .0), (ref-floats δ5-11 v-floats, (ref-values δ5-12 v-values, tt))))))))))))), (r1 ∷ [], (m-least ∷ [], (vint w64 ns ∷ [], (vint w64 n ∷ [], (vint w64 a ∷ [], (vint w64 entries ∷ [], (s-firsts ∷ [], (s-starts ∷ [], (s-rows ∷ [], (s-groups ∷ [], (s-words ∷ [], (s-floats ∷ [], (s-values ∷ [], tt)))))))))))))), tt) (w-and-then ! (w-load ! (w-from ! (w-stop !)) (w-look ! 26 refl)) (w-and-then ! (w-load ! (w-from ! (w-stop !)) (w-look ! 24 refl)) (w-and-then ! (w-load ! (w-from ! (w-stop !)) (w-look ! 12 refl)) (w-and-then ! (w-load ! (w-from ! (w-stop !)) (w-look ! 13 refl)) (w-and-then ! (w-load ! (w-from ! (w-stop !)) (w-look ! 14 refl)) (w-and-then ! (w-load ! (w-from ! (w-stop !)) (w-look ! 15 refl)) (w-and-then ! (w-load ! (w-from ! (w-stop !)) (w-look ! 16 refl)) (w-and-then ! (w-load ! (w-from ! (w-stop !)) (w-look ! 17 refl)) (w-and-then ! (w-load ! (w-from ! (w-stop !)) (w-look ! 18 refl)) (w-and-then ! (w-load ! (w-from ! (w-stop !)) (w-look ! 19 refl)) (w-and-then ! (w-load ! (w-from ! (w-stop !)) (w-look ! 36 refl)) (w-and-then ! (w-load ! (w-from ! (w-stop !)) (w-look ! 38 refl)) (w-and-then ! (w-load ! (w-from ! (w-stop !)) (w-look ! 40 refl)) (w-no-more !)))))))))))))) (λ r5.
           use1 W (later (some (λ (u′ : ℕ). ((‵ (flft (κ-firsts) q-firsts) ⊛ ‵ (flft (κ-starts) q-starts) ⊛ ‵ (flft (κ-rows) q-rows) ⊛ ‵ (flft (κ-groups) q-groups) ⊛ ‵ (flft (ν5-10 ∷ []) fullShare) ⊛ ‵ (flft (ν5-11 ∷ []) fullShare) ⊛ ‵ (flft (ν5-12 ∷ []) fullShare) ⊛ ‵ ftrue) ⊛ ‵ (usize .own u′ (r5 ∷ []))) ⊛ raw (ensured 𝓤 H A f-turn.ended (f-turn.clauses 𝓤 H A mem run) (κ-firsts, (κ-starts, (κ-rows, (κ-groups, (ν5-10 ∷ [], (ν5-11 ∷ [], (ν5-12 ∷ [], tt))))))) (u1, (least, (ns, (n, (a, (entries, (ref-firsts γ-firsts firsts, (ref-starts γ-starts starts, (ref-rows γ-rows rows, (ref-groups γ-groups groups, (ref-words δ5-10 (zs4 .1 .1 .1 .1 .0), (ref-floats δ5-11 v-floats, (ref-values δ5-12 v-values, tt))))))))))))) tt u′)))) (id⊢ 𝓤 _) $ w-await ! tt $ w-pick ! (λ u5.
           w-split ! $ w-move ! (1 ∷ []) $ use1 W (some (λ (zs5 : Unit {0} × (Unit {0} × (Unit {0} × (Unit {0} × (Unit {0} × (Unit {0} × (Unit {0} × (Unit {0} × (Unit {0} × (Unit {0} × (List ℕ × (List Float × (List Float × Unit {0}))))))))))))). ‵ (lasts f-turn.ended (κ-firsts, (κ-starts, (κ-rows, (κ-groups, (ν5-10 ∷ [], (ν5-11 ∷ [], (ν5-12 ∷ [], tt))))))) (u1, (least, (ns, (n, (a, (entries, (ref-firsts γ-firsts firsts, (ref-starts γ-starts starts, (ref-rows γ-rows rows, (ref-groups γ-groups groups, (ref-words δ5-10 (zs4 .1 .1 .1 .1 .0), (ref-floats δ5-11 v-floats, (ref-values δ5-12 v-values, tt))))))))))))) zs5) ⊛ raw (fact 𝓤 ((Turned (under n (firsts) (starts) (rows) (drop (parentsAt n) ((zs4 .1 .1 .1 .1 .0)))) (lowerValue (drop (startsAt n) ((zs4 .1 .1 .1 .1 .0))) (drop (rowsAt n) ((zs4 .1 .1 .1 .1 .0))) (take a (v-floats))) ns u1 a least u5 ((zs4 .1 .1 .1 .1 .0)) ((zs5 .1 .1 .1 .1 .1 .1 .1 .1 .1 .1 .0)) (v-floats) ((zs5 .1 .1 .1 .1 .1 .1 .1 .1 .1 .1 .1 .0)) (take entries (v-values)) (take entries ((zs5 .1 .1 .1 .1 .1 .1 .1 .1 .1 .1 .1 .1 .0)))) × (drop entries ((zs5 .1 .1 .1 .1 .1 .1 .1 .1 .1 .1 .1 .1 .0)) ≡ drop entries (v-values)))))) (id⊢ 𝓤 _) $ w-pick ! (λ zs5. w-split ! $ w-move ! (1 ∷ []) $ w-heard ! ((Turned (under n (firsts) (starts) (rows) (drop (parentsAt n) ((zs4 .1 .1 .1 .1 .0)))) (lowerValue (drop (startsAt n) ((zs4 .1 .1 .1 .1 .0))) (drop (rowsAt n) ((zs4 .1 .1 .1 .1 .0))) (take a (v-floats))) ns u1 a least u5 ((zs4 .1 .1 .1 .1 .0)) ((zs5 .1 .1 .1 .1 .1 .1 .1 .1 .1 .1 .0)) (v-floats) ((zs5 .1 .1 .1 .1 .1 .1 .1 .1 .1 .1 .1 .0)) (take entries (v-values)) (take entries ((zs5 .1 .1 .1 .1 .1 .1 .1 .1 .1 .1 .1 .1 .0)))) × (drop entries ((zs5 .1 .1 .1 .1 .1 .1 .1 .1 .1 .1 .1 .1 .0)) ≡ drop entries (v-values))) (λ d5.
-          w-fsplit ! $ w-drop ! $ w-fsplit ! $ w-drop ! $ w-fsplit ! $ w-drop ! $ w-fsplit ! $ w-drop ! $ w-fsplit ! $ w-drop ! $ w-fsplit ! $ w-drop ! $ w-fsplit ! $ w-drop ! $ w-fsplit ! $ w-drop ! $ w-fsplit ! $ w-drop ! $ w-fsplit ! $ w-drop ! $ w-fsplit ! $ w-fsplit ! $ w-move ! (1 ∷ []) $ w-feqL ! (λ same5-words. w-move ! (1 ∷ []) $ w-fsplit ! $ w-fsplit ! $ w-move ! (1 ∷ []) $ w-feqL ! (λ same5-floats. w-move ! (1 ∷ []) $ w-fsplit ! $ w-fsplit ! $ w-move ! (1 ∷ []) $ w-feqL ! (λ same5-values. w-move ! (1 ∷ []) $ w-drop ! $
+          w-past ! $ w-past ! $ w-past ! $ w-past ! $ w-past ! $ w-past ! $ w-past ! $ w-past ! $ w-past ! $ w-past ! $ w-last ! (λ same5-words. w-move ! (1 ∷ []) $ w-last ! (λ same5-floats. w-move ! (1 ∷ []) $ w-last ! (λ same5-values. w-move ! (1 ∷ []) $ w-drop ! $
           w-move ! (3 ∷ []) $ w-split ! $ w-move ! (1 ∷ []) $ w-peeks ! usize (Is usize) (shows 𝓤 H A usize) u5 (r5 ∷ []) (λ is5. w-land ! (w-from ! (w-stop !)) (w-store ! 28 refl (uint-lawful 𝓤 H A W w64 .typed u5 _ is5 .0)) $
-          w-drop ! $ w-split ! $ w-move ! (1 ∷ []) $ w-split ! $ w-move ! (1 ∷ []) $ w-split ! $ w-move ! (1 ∷ []) $ w-split ! $ w-move ! (1 ∷ []) $ w-split ! $ w-lft-end ! tt $ w-move ! (0 ∷ 11 ∷ 8 ∷ []) $ use3 W (later (‵ (MutSlice (named 5) κ-words usize .own (ref-words γ-words (zs5 .1 .1 .1 .1 .1 .1 .1 .1 .1 .1 .0)) (sliceVal (b-words, o-words) (length (zs4 .1 .1 .1 .1 .0)) ∷ [])) ⊛ ‵ (flft κ-words q-words))) (comes-back usize κ-words (ν5-10 ∷ []) q-words γ-words b-words o-words 𝓤 H A W (named 5) (named 4) (zs4 .1 .1 .1 .1 .0) δ5-10 (zs5 .1 .1 .1 .1 .1 .1 .1 .1 .1 .1 .0) (subst (Room usize) (sym (same4-words ∙ len-words)) room-words) same5-words) $ w-await ! tt $ w-split ! $
-          w-rewrite ! 0 (λ (m : ℕ). ‵ (MutSlice (named 5) κ-words usize .own (ref-words γ-words (zs5 .1 .1 .1 .1 .1 .1 .1 .1 .1 .1 .0)) (sliceVal (b-words, o-words) m ∷ []))) (same4-words ∙ len-words) refl $
-          w-move ! (2 ∷ []) $ w-split ! $ w-lft-end ! tt $ w-move ! (0 ∷ 11 ∷ 9 ∷ []) $ use3 W (later (‵ (MutSlice (named 6) κ-floats f64 .own (ref-floats γ-floats (zs5 .1 .1 .1 .1 .1 .1 .1 .1 .1 .1 .1 .0)) (sliceVal (b-floats, o-floats) (length v-floats) ∷ [])) ⊛ ‵ (flft κ-floats q-floats))) (comes-back f64 κ-floats (ν5-11 ∷ []) q-floats γ-floats b-floats o-floats 𝓤 H A W (named 6) (named 5) v-floats δ5-11 (zs5 .1 .1 .1 .1 .1 .1 .1 .1 .1 .1 .1 .0) (subst (Room f64) (sym len-floats) room-floats) same5-floats) $ w-await ! tt $ w-split ! $
-          w-rewrite ! 0 (λ (m : ℕ). ‵ (MutSlice (named 6) κ-floats f64 .own (ref-floats γ-floats (zs5 .1 .1 .1 .1 .1 .1 .1 .1 .1 .1 .1 .0)) (sliceVal (b-floats, o-floats) m ∷ []))) len-floats refl $
-          w-move ! (2 ∷ []) $ w-split ! $ w-lft-end ! tt $ w-move ! (0 ∷ 11 ∷ 10 ∷ []) $ use3 W (later (‵ (MutSlice (named 7) κ-values f64 .own (ref-values γ-values (zs5 .1 .1 .1 .1 .1 .1 .1 .1 .1 .1 .1 .1 .0)) (sliceVal (b-values, o-values) (length v-values) ∷ [])) ⊛ ‵ (flft κ-values q-values))) (comes-back f64 κ-values (ν5-12 ∷ []) q-values γ-values b-values o-values 𝓤 H A W (named 7) (named 6) v-values δ5-12 (zs5 .1 .1 .1 .1 .1 .1 .1 .1 .1 .1 .1 .1 .0) (subst (Room f64) (sym len-values) room-values) same5-values) $ w-await ! tt $ w-split ! $
-          w-rewrite ! 0 (λ (m : ℕ). ‵ (MutSlice (named 7) κ-values f64 .own (ref-values γ-values (zs5 .1 .1 .1 .1 .1 .1 .1 .1 .1 .1 .1 .1 .0)) (sliceVal (b-values, o-values) m ∷ []))) len-values refl $
+          w-drop ! $ w-split ! $ w-move ! (1 ∷ []) $ w-split ! $ w-move ! (1 ∷ []) $ w-split ! $ w-move ! (1 ∷ []) $ w-split ! $ w-move ! (1 ∷ 10 ∷ 7 ∷ []) $ w-back ! tt usize κ-words q-words γ-words b-words o-words (named 5) (named 4) (zs4 .1 .1 .1 .1 .0) (length words) (same4-words ∙ len-words) ν5-10 δ5-10 (zs5 .1 .1 .1 .1 .1 .1 .1 .1 .1 .1 .0) room-words same5-words $
+          w-move ! (2 ∷ 10 ∷ 8 ∷ []) $ w-back ! tt f64 κ-floats q-floats γ-floats b-floats o-floats (named 6) (named 5) v-floats (length floats) len-floats ν5-11 δ5-11 (zs5 .1 .1 .1 .1 .1 .1 .1 .1 .1 .1 .1 .0) room-floats same5-floats $
+          w-move ! (2 ∷ 10 ∷ 9 ∷ []) $ w-back ! tt f64 κ-values q-values γ-values b-values o-values (named 7) (named 6) v-values (length values) len-values ν5-12 δ5-12 (zs5 .1 .1 .1 .1 .1 .1 .1 .1 .1 .1 .1 .1 .0) room-values same5-values $
           w-move ! (2 ∷ []) $ w-drop ! $
           w-forget ! 41 refl $ w-forget ! 42 refl $ w-forget ! 43 refl $ w-forget ! 44 refl $ w-forget ! 45 refl $ w-forget ! 46 refl $ w-assigns-last ! (w-bin ! (w-load ! (w-from ! (w-stop !)) (w-look ! 31 refl)) (w-lit ! tt) (record { fits = next-fits })) (w-from ! (w-stop !)) (w-store ! 31 refl (tt, record { fits = next-fits })) $
           w-forget ! 32 refl $ w-forget ! 33 refl $ w-forget ! 34 refl $ w-forget ! 35 refl $ w-rewrite ! 31 (λ (j : ℕ). ‵ (fat fullShare ty15 l15 0 (vint w64 j))) (add-one i) refl $
-          w-keep ! (13 ∷ 12 ∷ 11 ∷ 10 ∷ 15 ∷ 4 ∷ 2 ∷ 0 ∷ 9 ∷ 8 ∷ 7 ∷ 6 ∷ 14 ∷ 5 ∷ 3 ∷ 1 ∷ 16 ∷ 17 ∷ 18 ∷ 19 ∷ 20 ∷ 21 ∷ 22 ∷ 23 ∷ 24 ∷ 25 ∷ 26 ∷ 27 ∷ 28 ∷ 29 ∷ 30 ∷ 31 ∷ 32 ∷ 33 ∷ 34 ∷ 35 ∷ 36 ∷ 37 ∷ 38 ∷ 39 ∷ 40 ∷ 41 ∷ 42 ∷ 43 ∷ 44 ∷ 45 ∷ 46 ∷ 47 ∷ []) $ w-by ! (k (zs5 .1 .1 .1 .1 .1 .1 .1 .1 .1 .1 .0) (zs5 .1 .1 .1 .1 .1 .1 .1 .1 .1 .1 .1 .0) (zs5 .1 .1 .1 .1 .1 .1 .1 .1 .1 .1 .1 .1 .0) u5 r5 (same5-words ∙ same4-words ∙ len-words) (same5-floats ∙ len-floats) (same5-values ∙ len-values) (is5) (again i v-words v-floats v-values least m-least len-words len-floats len-values is-least kept small u1 r1 is1 d1 u2 r2 is2 d2 u3 r3 is3 d3 (zs4 .1 .1 .1 .1 .0) d4 same4-words u5 r5 is5 (zs5 .1 .1 .1 .1 .1 .1 .1 .1 .1 .1 .0) (zs5 .1 .1 .1 .1 .1 .1 .1 .1 .1 .1 .1 .0) (zs5 .1 .1 .1 .1 .1 .1 .1 .1 .1 .1 .1 .1 .0) d5 same5-words same5-floats same5-values)))))))))))))))))))))))))))))))))))))))))
+          w-keep ! (13 ∷ 12 ∷ 11 ∷ 10 ∷ 15 ∷ 4 ∷ 2 ∷ 0 ∷ 9 ∷ 8 ∷ 7 ∷ 6 ∷ 14 ∷ 5 ∷ 3 ∷ 1 ∷ 16 ∷ 17 ∷ 18 ∷ 19 ∷ 20 ∷ 21 ∷ 22 ∷ 23 ∷ 24 ∷ 25 ∷ 26 ∷ 27 ∷ 28 ∷ 29 ∷ 30 ∷ 31 ∷ 32 ∷ 33 ∷ 34 ∷ 35 ∷ 36 ∷ 37 ∷ 38 ∷ 39 ∷ 40 ∷ 41 ∷ 42 ∷ 43 ∷ 44 ∷ 45 ∷ 46 ∷ 47 ∷ []) $ w-by ! (k (zs5 .1 .1 .1 .1 .1 .1 .1 .1 .1 .1 .0) (zs5 .1 .1 .1 .1 .1 .1 .1 .1 .1 .1 .1 .0) (zs5 .1 .1 .1 .1 .1 .1 .1 .1 .1 .1 .1 .1 .0) u5 r5 (same5-words ∙ same4-words ∙ len-words) (same5-floats ∙ len-floats) (same5-values ∙ len-values) (is5) (again i v-words v-floats v-values least m-least len-words len-floats len-values is-least kept small u1 r1 is1 d1 u2 r2 is2 d2 u3 r3 is3 d3 (zs4 .1 .1 .1 .1 .0) d4 same4-words u5 r5 is5 (zs5 .1 .1 .1 .1 .1 .1 .1 .1 .1 .1 .0) (zs5 .1 .1 .1 .1 .1 .1 .1 .1 .1 .1 .1 .0) (zs5 .1 .1 .1 .1 .1 .1 .1 .1 .1 .1 .1 .1 .0) d5 same5-words same5-floats same5-values))))))))))))))))))))))))))))))))))))
 
       left : (v-words : List ℕ) (v-floats : List Float) (v-values : List Float) (least : ℕ) (m-least : Val) (len-words : length v-words ≡ length words) (len-floats : length v-floats ≡ length floats) (len-values : length v-values ≡ length values) (is-least : Is usize least (m-least ∷ [])) (kept : Going steps ns n a entries firsts starts rows words floats values v-words v-floats v-values least steps) (X : SProp 𝓤) → ent 𝓤 (⋆ 𝓤 H A (At steps v-words v-floats v-values least m-least)) (Wp 𝓤 H C Λ En body.turn-1 (afterTurn 𝓤 H X Left))
       unfolding afterTurn

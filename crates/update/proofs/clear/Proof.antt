@@ -41,10 +41,9 @@ use prog.Routine.{Routine}
 use prog.Wp.{Calls, Env, Heap, Loops, Out, Tables, Wp, WpFn, afterBlock, afterSeq, afterTurn, atReturn}
 use sound.Loop.{loop-rule}
 use sound.WpLaws.{FmC, WpFn-mono, fmOf}
-use types.Kit.{ !, Given, Item, _$_, _∵_, _⊛_, anyQ, atRet, await as w-await, by as w-by, done, drop as w-drop, feqI as w-feqI, feqL as w-feqL, fjoin as w-fjoin, frame as w-frame, fsplit as w-fsplit, join as w-join, keep as w-keep, later, move as w-move, pick as w-pick, qed, raw, rewrite as w-rewrite, some, split as w-split, suffices as w-suffices, use1, use2, use3, ‵, ⋆}
+use types.Kit.{ !, Given, Item, _$_, _∵_, _⊛_, anyQ, atRet, await as w-await, by as w-by, done, drop as w-drop, feqI as w-feqI, fjoin as w-fjoin, frame as w-frame, fsplit as w-fsplit, join as w-join, keep as w-keep, later, move as w-move, pick as w-pick, qed, raw, rewrite as w-rewrite, some, split as w-split, suffices as w-suffices, use1, use2, ‵, ⋆}
 use types.Part.{agg as w-agg, look-in as w-look-in, sub as w-sub, whole as w-whole}
 use types.Run.{addr as w-addr, alloc0 as w-alloc0, alloc1 as w-alloc1, and-then as w-and-then, assigns as w-assigns, assigns-last as w-assigns-last, bin as w-bin, enter as w-enter, exec as w-exec, fld as w-fld, forget as w-forget, from as w-from, hop as w-hop, init as w-init, land as w-land, leaves-loop as w-leaves-loop, lit as w-lit, load as w-load, look as w-look, no-more as w-no-more, of-opd as w-of-opd, params1 as w-params1, pass0 as w-pass0, pass1 as w-pass1, returns as w-returns, stays as w-stays, stop as w-stop, store as w-store, unit-lit as w-unit-lit}
-use types.Tokens.{lft-end as w-lft-end, lft-new as w-lft-new}
 use denote.Struct.Laws as LL
 use Rattle.statement.specs.declared.Update.{Update}
 use Rattle.statement.proofs.Update as T-Update
@@ -58,7 +57,7 @@ use Rattle.update.proofs.put_update.Symbol as def-put-update
 use Rattle.update.proofs.put_update.Symbol.{name as #update·put-update}
 use Rattle.update.proofs.put_update.Met as thm-put-update
 use Rattle.update.proofs.Packs.{Packed, pack as w-pack, unpack as w-unpack, written as w-written, homes-freed as w-homes-freed}
-use Rattle.update.proofs.Again.{LentAgain, lends-at, back-at}
+use Rattle.update.proofs.Lending.{lend as w-lend, back as w-back, last as w-last, past as w-past}
 use Rattle.update.proofs.clear.Key.{name as #update·clear}
 use Rattle.update.proofs.clear as here
 use Rattle.update.proofs.clear.Statement as stated
@@ -192,20 +191,20 @@ module _ {M : Type 1} (𝓤 : URA M) (H : Heap 𝓤) (A : Atoms 𝓤) (W : Given
           w-split ! $ w-move ! (1 ∷ []) $ w-peeks ! T-Update.the-row (Is T-Update.the-row) (shows 𝓤 H A T-Update.the-row) u1 (r1 ∷ []) (λ is1. w-land ! (w-from ! (w-stop !)) (w-init ! 8 refl (LL.lawful T-Update.the-type L-Update.the-laws 𝓤 H A W .typed u1 _ is1 .0)) $
           w-drop ! $ w-drop ! $
           w-assigns ! (w-addr ! (w-from ! (w-fld ! refl (w-hop ! (w-look-in ! 3 (w-sub ! 0 refl (w-whole !))) (w-stop !))))) (w-from ! (w-stop !)) (w-init ! 9 refl (tt, tt)) $ w-assigns ! (w-agg ! (w-and-then ! (w-load ! (w-from ! (w-stop !)) (w-look ! 9 refl)) (w-and-then ! (w-load ! (w-from ! (w-fld ! refl (w-stop !))) (w-look-in ! 3 (w-sub ! 1 refl (w-whole !)))) (w-no-more !)))) (w-from ! (w-stop !)) (w-init ! 10 refl (tt, (tt, (record { fits = room-us .0 }, tt)))) $
-          w-lft-new ! tt (λ ν2-0. w-move ! (1 ∷ 2 ∷ []) $ use2 W (later (some (λ (δ : GName). ‵ (MutSlice (named 0) (ν2-0 ∷ []) T-Update.the-row .own (ref-us δ v-us) (s-us ∷ [])) ⊛ ‵ (LentAgain T-Update.the-row κ-us (ν2-0 ∷ []) q-us γ-us b-us o-us δ v-us)))) (lends-at T-Update.the-row κ-us (ν2-0 ∷ []) q-us γ-us b-us o-us 𝓤 H A W (named 0) (named 0) v-us (length us) len-us) $ w-await ! tt $ w-pick ! (λ δ2-0. w-split ! $
+          w-lend ! tt T-Update.the-row κ-us q-us γ-us b-us o-us (named 0) (named 0) v-us (length us) len-us (λ ν2-0 δ2-0.
           w-nothing ! $ w-owned ! T-Update.the-row (Is T-Update.the-row) (LL.makes T-Update.the-type L-Update.the-plain 𝓤 H A) u1 _ is1 $ w-fjoin ! $ w-owned ! usize (Is usize) (uint-makes 𝓤 H A W w64) i _ ((refl, fits-turn)) $ w-fjoin ! $ w-move ! (1 ∷ 0 ∷ []) $ w-fjoin ! $
           w-nothing ! $ w-move ! (3 ∷ 0 ∷ []) $ w-join ! $
           use2 W (raw (C-put-update 𝓤 H A mem run .pre (((ν2-0 ∷ [], tt), (fullShare, tt), tt, (ref-us δ2-0 v-us, (i, (u1, tt))), (s-us ∷ [], (vint w64 i ∷ [], (r1 ∷ [], tt)))), tt))) (asked2 i v-us len-us kept small u1 r1 is1 d1 ν2-0 δ2-0) $
           w-calls-at ! fm (C-put-update 𝓤 H A mem run) known-put-update (((ν2-0 ∷ [], tt), (fullShare, tt), tt, (ref-us δ2-0 v-us, (i, (u1, tt))), (s-us ∷ [], (vint w64 i ∷ [], (r1 ∷ [], tt)))), tt) (w-and-then ! (w-load ! (w-from ! (w-stop !)) (w-look ! 10 refl)) (w-and-then ! (w-load ! (w-from ! (w-stop !)) (w-look ! 5 refl)) (w-and-then ! (w-load ! (w-from ! (w-stop !)) (w-look ! 6 refl)) (w-no-more !)))) (λ r2.
           use1 W (later (some (λ (u′ : Unit {0}). ((‵ (flft (ν2-0 ∷ []) fullShare) ⊛ ‵ ftrue) ⊛ ‵ (Nothing .own u′ (r2 ∷ []))) ⊛ raw (ensured 𝓤 H A f-put-update.ended (f-put-update.clauses 𝓤 H A mem run) (ν2-0 ∷ [], tt) (ref-us δ2-0 v-us, (i, (u1, tt))) tt u′)))) (id⊢ 𝓤 _) $ w-await ! tt $ w-pick ! (λ u2.
           w-split ! $ w-move ! (1 ∷ []) $ use1 W (some (λ (zs2 : List Update × (Unit {0} × (Unit {0} × Unit {0}))). ‵ (lasts f-put-update.ended (ν2-0 ∷ [], tt) (ref-us δ2-0 v-us, (i, (u1, tt))) zs2) ⊛ raw (fact 𝓤 ((zs2 .0) ≡ set (v-us) i u1)))) (id⊢ 𝓤 _) $ w-pick ! (λ zs2. w-split ! $ w-move ! (1 ∷ []) $ w-heard ! ((zs2 .0) ≡ set (v-us) i u1) (λ d2.
-          w-fsplit ! $ w-fsplit ! $ w-move ! (1 ∷ []) $ w-feqL ! (λ same2-us. w-move ! (1 ∷ []) $ w-fsplit ! $ w-drop ! $ w-fsplit ! $ w-drop ! $ w-drop ! $
+          w-last ! (λ same2-us. w-move ! (1 ∷ []) $ w-past ! $ w-past ! $ w-drop ! $
           w-move ! (1 ∷ []) $ w-split ! $ w-move ! (1 ∷ []) $ w-peeks ! Nothing (Is Nothing) (shows 𝓤 H A Nothing) u2 (r2 ∷ []) (λ is2. w-land ! (w-from ! (w-stop !)) (w-init ! 10 refl (nothing-lawful 𝓤 H A W .typed u2 _ is2 .0)) $
-          w-drop ! $ w-split ! $ w-lft-end ! tt $ w-move ! (0 ∷ 3 ∷ 2 ∷ []) $ use3 W (later (‵ (MutSlice (named 0) κ-us T-Update.the-row .own (ref-us γ-us (zs2 .0)) (sliceVal (b-us, o-us) (length us) ∷ [])) ⊛ ‵ (flft κ-us q-us))) (back-at T-Update.the-row κ-us (ν2-0 ∷ []) q-us γ-us b-us o-us 𝓤 H A W (named 0) (named 0) v-us (length us) len-us δ2-0 (zs2 .0) room-us same2-us) $ w-await ! tt $ w-split ! $
+          w-drop ! $ w-move ! (0 ∷ 2 ∷ 1 ∷ []) $ w-back ! tt T-Update.the-row κ-us q-us γ-us b-us o-us (named 0) (named 0) v-us (length us) len-us ν2-0 δ2-0 (zs2 .0) room-us same2-us $
           w-move ! (2 ∷ []) $ w-drop ! $
           w-forget ! 8 refl $ w-forget ! 9 refl $ w-forget ! 10 refl $ w-assigns-last ! (w-bin ! (w-load ! (w-from ! (w-stop !)) (w-look ! 5 refl)) (w-lit ! tt) (record { fits = next-fits })) (w-from ! (w-stop !)) (w-store ! 5 refl (tt, record { fits = next-fits })) $
           w-forget ! 6 refl $ w-forget ! 7 refl $ w-rewrite ! 5 (λ (j : ℕ). ‵ (fat fullShare ty3 l3 0 (vint w64 j))) (add-one i) refl $
-          w-keep ! (0 ∷ 1 ∷ 2 ∷ 3 ∷ 4 ∷ 5 ∷ 6 ∷ 7 ∷ 8 ∷ 9 ∷ 10 ∷ 11 ∷ []) $ w-by ! (k (zs2 .0) (same2-us ∙ len-us) (again i v-us len-us kept small u1 r1 is1 d1 (zs2 .0) d2 same2-us)))))))))))))))
+          w-keep ! (0 ∷ 1 ∷ 2 ∷ 3 ∷ 4 ∷ 5 ∷ 6 ∷ 7 ∷ 8 ∷ 9 ∷ 10 ∷ 11 ∷ []) $ w-by ! (k (zs2 .0) (same2-us ∙ len-us) (again i v-us len-us kept small u1 r1 is1 d1 (zs2 .0) d2 same2-us))))))))))))))
 
       left : (v-us : List Update) (len-us : length v-us ≡ length us) (kept : Front (λ _. noUpdate) n us v-us n) (X : SProp 𝓤) → ent 𝓤 (⋆ 𝓤 H A (At n v-us)) (Wp 𝓤 H C Λ En body.turn-1 (afterTurn 𝓤 H X Left))
       unfolding afterTurn
