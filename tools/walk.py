@@ -515,7 +515,7 @@ class Walk:
                 w.emit(f'forget ! {c.ix(f"L-{q}")} refl $ '); w.loc[q] = None
         if k in w.spare: w.pack([f'L-{q}' for q in w.spare[k]], f'S-{k}')
         if w.packs():
-            w.texts.update({f'own-{n}': f'‵ ({w.own(n, z, var(n))})' for n, t, _, z, _ in news if w.kind(n) == 'mut'})
+            w.texts.update({f'L-{w.owned[n][0]}' if n in w.owned else f'own-{n}': f'‵ ({w.lies(n, z) if n in w.owned else w.own(n, z, var(n))})' for n, t, _, z, _ in news})
             w.write(); w.texts = {}
         if w.packs(): w.unpack('REST', w.rest)
         # what the next part is told

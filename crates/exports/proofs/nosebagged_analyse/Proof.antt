@@ -21,7 +21,7 @@ use denote.Plain.{uint-lawful, uint-makes, uint-tells, uint-vals}
 use denote.RattleType.{owns}
 use denote.Ref.{MutRef, RefT, mut-tells, ptr-vals}
 use denote.Signature.{plain}
-use denote.Slice.{MutSlice, Room, ShrSlice, mut-slice-tells, shr-slice-copy, shr-slice-tells, slice-vals, sliceTy, sliceVal}
+use denote.Slice.{MutSlice, Room, ShrSlice, finally, mut-slice-tells, shr-slice-copy, shr-slice-tells, slice-vals, sliceTy, sliceVal}
 use denote.Steps.{heard as w-heard, nothing as w-nothing, owned as w-owned, peeks as w-peeks}
 use denote.Triple.Call.{calls-at as w-calls-at}
 use denote.Triple.Clauses.{ensured, lasts}
@@ -43,7 +43,7 @@ use prog.Memory.{Memory}
 use prog.Routine.{Routine}
 use prog.Wp.{Calls, Env, Heap, Loops, Tables, WpFn}
 use sound.WpLaws.{FmC, WpFn-mono, fmOf}
-use types.Kit.{ !, Given, Item, Sq, _$_, _∵_, _⊛_, atRet, await as w-await, by as w-by, done, drop as w-drop, feqL as w-feqL, fjoin as w-fjoin, frame as w-frame, fsplit as w-fsplit, join as w-join, keep as w-keep, later, move as w-move, params′, pick as w-pick, qed, raw, runs, some, split as w-split, suffices as w-suffices, use1, use2, use3, ‵, ⋆}
+use types.Kit.{ !, Given, Item, Sq, _$_, _∵_, _⊛_, atRet, await as w-await, by as w-by, done, drop as w-drop, fjoin as w-fjoin, frame as w-frame, fsplit as w-fsplit, join as w-join, keep as w-keep, later, move as w-move, params′, pick as w-pick, qed, raw, runs, some, split as w-split, suffices as w-suffices, use1, use2, use3, ‵, ⋆}
 use types.Part.{agg as w-agg, look-in as w-look-in, sub as w-sub, whole as w-whole}
 use types.Run.{addr as w-addr, alloc0 as w-alloc0, alloc1 as w-alloc1, and-then as w-and-then, assigns as w-assigns, enter as w-enter, fld as w-fld, forget as w-forget, from as w-from, hop as w-hop, init as w-init, land as w-land, load as w-load, look as w-look, no-more as w-no-more, params1 as w-params1, pass0 as w-pass0, pass1 as w-pass1, returns as w-returns, stop as w-stop}
 use types.Tokens.{lft-end as w-lft-end, lft-new as w-lft-new}
@@ -61,8 +61,9 @@ use Rattle.crossing.proofs.cross as f-cross
 use Rattle.crossing.proofs.cross.Symbol as def-cross
 use Rattle.crossing.proofs.cross.Symbol.{name as #crossing·cross}
 use Rattle.crossing.proofs.cross.Met as thm-cross
-use Rattle.update.proofs.Packs.{Packed, pack as w-pack, unpack as w-unpack, homes-freed as w-homes-freed}
-use Rattle.update.proofs.Again.{LentAgain, lends-again, comes-back}
+use Rattle.update.proofs.Packs.{Packed, pack as w-pack, unpack as w-unpack, written as w-written, homes-freed as w-homes-freed}
+use Rattle.update.proofs.Again.{LentAgain}
+use Rattle.update.proofs.Lending.{lend as w-lend, back as w-back, last as w-last, past as w-past}
 use Rattle.exports.proofs.nosebagged_analyse.Key.{name as #exports·nosebagged-analyse}
 use Rattle.exports.proofs.nosebagged_analyse as here
 use Rattle.exports.proofs.nosebagged_analyse.Statement as stated
@@ -296,9 +297,9 @@ module _ {M : Type 1} (𝓤 : URA M) (H : Heap 𝓤) (A : Atoms 𝓤) (W : Given
     abbrev fm : FmC 𝓤 H (W .laws) (𝓣 .C)
     fm = fmOf 𝓤 H (W .laws) 𝓣
 
-    asked1 : (ν1-5 : ℕ) (δ1-5 : GName) (ν1-6 : ℕ) (δ1-6 : GName) (ν1-7 : ℕ) (δ1-7 : GName) (ν1-8 : ℕ) (δ1-8 : GName) (ν1-9 : ℕ) (δ1-9 : GName) (ν1-10 : ℕ) (δ1-10 : GName) (ν1-11 : ℕ) (δ1-11 : GName) (ν1-12 : ℕ) (δ1-12 : GName) (ν1-13 : ℕ) (δ1-13 : GName) → ent 𝓤 (onEntry 𝓤 H A f-analyse.signature (κ-input-starts, (κ-input-rows, (κ-input-values, (ν1-5 ∷ [], (ν1-6 ∷ [], (ν1-7 ∷ [], (ν1-8 ∷ [], (ν1-9 ∷ [], (ν1-10 ∷ [], (ν1-11 ∷ [], (ν1-12 ∷ [], (ν1-13 ∷ [], tt)))))))))))) (q-input-starts, (q-input-rows, (q-input-values, (fullShare, (fullShare, (fullShare, (fullShare, (fullShare, (fullShare, (fullShare, (fullShare, (fullShare, tt)))))))))))) (n, (ref-input-starts γ-input-starts input-starts, (ref-input-rows γ-input-rows input-rows, (ref-input-values γ-input-values input-values, (cap, (ref-permutation δ1-5 permutation, (ref-firsts δ1-6 firsts, (ref-starts δ1-7 starts, (ref-groups δ1-8 groups, (ref-tasks δ1-9 tasks, (ref-top δ1-10 top, (ref-words δ1-11 words, (ref-rows δ1-12 rows, (ref-updates δ1-13 updates, tt)))))))))))))) (vint w64 n ∷ [], (sliceVal (b-input-starts, o-input-starts) (length input-starts) ∷ [], (sliceVal (b-input-rows, o-input-rows) (length input-rows) ∷ [], (sliceVal (b-input-values, o-input-values) (length input-values) ∷ [], (vint w64 cap ∷ [], (sliceVal (b-permutation, o-permutation) (length permutation) ∷ [], (sliceVal (b-firsts, o-firsts) (length firsts) ∷ [], (sliceVal (b-starts, o-starts) (length starts) ∷ [], (sliceVal (b-groups, o-groups) (length groups) ∷ [], (sliceVal (b-tasks, o-tasks) (length tasks) ∷ [], (sliceVal (b-top, o-top) (length top) ∷ [], (sliceVal (b-words, o-words) (length words) ∷ [], (sliceVal (b-rows, o-rows) (length rows) ∷ [], (sliceVal (b-updates, o-updates) (length updates) ∷ [], tt))))))))))))))) (C-analyse 𝓤 H A mem run .pre (((κ-input-starts, (κ-input-rows, (κ-input-values, (ν1-5 ∷ [], (ν1-6 ∷ [], (ν1-7 ∷ [], (ν1-8 ∷ [], (ν1-9 ∷ [], (ν1-10 ∷ [], (ν1-11 ∷ [], (ν1-12 ∷ [], (ν1-13 ∷ [], tt)))))))))))), (q-input-starts, (q-input-rows, (q-input-values, (fullShare, (fullShare, (fullShare, (fullShare, (fullShare, (fullShare, (fullShare, (fullShare, (fullShare, tt)))))))))))), tt, (n, (ref-input-starts γ-input-starts input-starts, (ref-input-rows γ-input-rows input-rows, (ref-input-values γ-input-values input-values, (cap, (ref-permutation δ1-5 permutation, (ref-firsts δ1-6 firsts, (ref-starts δ1-7 starts, (ref-groups δ1-8 groups, (ref-tasks δ1-9 tasks, (ref-top δ1-10 top, (ref-words δ1-11 words, (ref-rows δ1-12 rows, (ref-updates δ1-13 updates, tt)))))))))))))), (vint w64 n ∷ [], (sliceVal (b-input-starts, o-input-starts) (length input-starts) ∷ [], (sliceVal (b-input-rows, o-input-rows) (length input-rows) ∷ [], (sliceVal (b-input-values, o-input-values) (length input-values) ∷ [], (vint w64 cap ∷ [], (sliceVal (b-permutation, o-permutation) (length permutation) ∷ [], (sliceVal (b-firsts, o-firsts) (length firsts) ∷ [], (sliceVal (b-starts, o-starts) (length starts) ∷ [], (sliceVal (b-groups, o-groups) (length groups) ∷ [], (sliceVal (b-tasks, o-tasks) (length tasks) ∷ [], (sliceVal (b-top, o-top) (length top) ∷ [], (sliceVal (b-words, o-words) (length words) ∷ [], (sliceVal (b-rows, o-rows) (length rows) ∷ [], (sliceVal (b-updates, o-updates) (length updates) ∷ [], tt))))))))))))))), tt))
+    asked1 : (ν1-5 : ℕ) (δ1-5 : GName) (ν1-6 : ℕ) (δ1-6 : GName) (ν1-7 : ℕ) (δ1-7 : GName) (ν1-8 : ℕ) (δ1-8 : GName) (ν1-9 : ℕ) (δ1-9 : GName) (ν1-10 : ℕ) (δ1-10 : GName) (ν1-11 : ℕ) (δ1-11 : GName) (ν1-12 : ℕ) (δ1-12 : GName) (ν1-13 : ℕ) (δ1-13 : GName) → ent 𝓤 (onEntry 𝓤 H A f-analyse.signature (κ-input-starts, (κ-input-rows, (κ-input-values, (ν1-5 ∷ [], (ν1-6 ∷ [], (ν1-7 ∷ [], (ν1-8 ∷ [], (ν1-9 ∷ [], (ν1-10 ∷ [], (ν1-11 ∷ [], (ν1-12 ∷ [], (ν1-13 ∷ [], tt)))))))))))) (q-input-starts, (q-input-rows, (q-input-values, (fullShare, (fullShare, (fullShare, (fullShare, (fullShare, (fullShare, (fullShare, (fullShare, (fullShare, tt)))))))))))) (n, (ref-input-starts γ-input-starts input-starts, (ref-input-rows γ-input-rows input-rows, (ref-input-values γ-input-values input-values, (cap, (ref-permutation δ1-5 permutation, (ref-firsts δ1-6 firsts, (ref-starts δ1-7 starts, (ref-groups δ1-8 groups, (ref-tasks δ1-9 tasks, (ref-top δ1-10 top, (ref-words δ1-11 words, (ref-rows δ1-12 rows, (ref-updates δ1-13 updates, tt)))))))))))))) (vint w64 n ∷ [], (s-input-starts ∷ [], (s-input-rows ∷ [], (s-input-values ∷ [], (vint w64 cap ∷ [], (s-permutation ∷ [], (s-firsts ∷ [], (s-starts ∷ [], (s-groups ∷ [], (s-tasks ∷ [], (s-top ∷ [], (s-words ∷ [], (s-rows ∷ [], (s-updates ∷ [], tt))))))))))))))) (C-analyse 𝓤 H A mem run .pre (((κ-input-starts, (κ-input-rows, (κ-input-values, (ν1-5 ∷ [], (ν1-6 ∷ [], (ν1-7 ∷ [], (ν1-8 ∷ [], (ν1-9 ∷ [], (ν1-10 ∷ [], (ν1-11 ∷ [], (ν1-12 ∷ [], (ν1-13 ∷ [], tt)))))))))))), (q-input-starts, (q-input-rows, (q-input-values, (fullShare, (fullShare, (fullShare, (fullShare, (fullShare, (fullShare, (fullShare, (fullShare, (fullShare, tt)))))))))))), tt, (n, (ref-input-starts γ-input-starts input-starts, (ref-input-rows γ-input-rows input-rows, (ref-input-values γ-input-values input-values, (cap, (ref-permutation δ1-5 permutation, (ref-firsts δ1-6 firsts, (ref-starts δ1-7 starts, (ref-groups δ1-8 groups, (ref-tasks δ1-9 tasks, (ref-top δ1-10 top, (ref-words δ1-11 words, (ref-rows δ1-12 rows, (ref-updates δ1-13 updates, tt)))))))))))))), (vint w64 n ∷ [], (s-input-starts ∷ [], (s-input-rows ∷ [], (s-input-values ∷ [], (vint w64 cap ∷ [], (s-permutation ∷ [], (s-firsts ∷ [], (s-starts ∷ [], (s-groups ∷ [], (s-tasks ∷ [], (s-top ∷ [], (s-words ∷ [], (s-rows ∷ [], (s-updates ∷ [], tt))))))))))))))), tt))
     asked1 ν1-5 δ1-5 ν1-6 δ1-6 ν1-7 δ1-7 ν1-8 δ1-8 ν1-9 δ1-9 ν1-10 δ1-10 ν1-11 δ1-11 ν1-12 δ1-12 ν1-13 δ1-13 =
-        qed W ((‵ (flft (κ-input-starts) q-input-starts) ⊛ ‵ (flft (κ-input-rows) q-input-rows) ⊛ ‵ (flft (κ-input-values) q-input-values) ⊛ ‵ (flft (ν1-5 ∷ []) fullShare) ⊛ ‵ (flft (ν1-6 ∷ []) fullShare) ⊛ ‵ (flft (ν1-7 ∷ []) fullShare) ⊛ ‵ (flft (ν1-8 ∷ []) fullShare) ⊛ ‵ (flft (ν1-9 ∷ []) fullShare) ⊛ ‵ (flft (ν1-10 ∷ []) fullShare) ⊛ ‵ (flft (ν1-11 ∷ []) fullShare) ⊛ ‵ (flft (ν1-12 ∷ []) fullShare) ⊛ ‵ (flft (ν1-13 ∷ []) fullShare) ⊛ ‵ ftrue) ∷ ‵ (owns (usize ∷ ShrSlice (named 0) (κ-input-starts) usize ∷ ShrSlice (named 1) (κ-input-rows) usize ∷ ShrSlice (named 2) (κ-input-values) f64 ∷ usize ∷ MutSlice (named 3) (ν1-5 ∷ []) usize ∷ MutSlice (named 4) (ν1-6 ∷ []) usize ∷ MutSlice (named 5) (ν1-7 ∷ []) usize ∷ MutSlice (named 6) (ν1-8 ∷ []) usize ∷ MutSlice (named 7) (ν1-9 ∷ []) usize ∷ MutSlice (named 8) (ν1-10 ∷ []) usize ∷ MutSlice (named 9) (ν1-11 ∷ []) usize ∷ MutSlice (named 10) (ν1-12 ∷ []) usize ∷ MutSlice (named 11) (ν1-13 ∷ []) T-Update.the-row ∷ []) (n, (ref-input-starts γ-input-starts input-starts, (ref-input-rows γ-input-rows input-rows, (ref-input-values γ-input-values input-values, (cap, (ref-permutation δ1-5 permutation, (ref-firsts δ1-6 firsts, (ref-starts δ1-7 starts, (ref-groups δ1-8 groups, (ref-tasks δ1-9 tasks, (ref-top δ1-10 top, (ref-words δ1-11 words, (ref-rows δ1-12 rows, (ref-updates δ1-13 updates, tt)))))))))))))) (vint w64 n ∷ [], (sliceVal (b-input-starts, o-input-starts) (length input-starts) ∷ [], (sliceVal (b-input-rows, o-input-rows) (length input-rows) ∷ [], (sliceVal (b-input-values, o-input-values) (length input-values) ∷ [], (vint w64 cap ∷ [], (sliceVal (b-permutation, o-permutation) (length permutation) ∷ [], (sliceVal (b-firsts, o-firsts) (length firsts) ∷ [], (sliceVal (b-starts, o-starts) (length starts) ∷ [], (sliceVal (b-groups, o-groups) (length groups) ∷ [], (sliceVal (b-tasks, o-tasks) (length tasks) ∷ [], (sliceVal (b-top, o-top) (length top) ∷ [], (sliceVal (b-words, o-words) (length words) ∷ [], (sliceVal (b-rows, o-rows) (length rows) ∷ [], (sliceVal (b-updates, o-updates) (length updates) ∷ [], tt))))))))))))))) ∷ []) ∵ w-join ! $ w-frame ! $ done !
+        qed W ((‵ (flft (κ-input-starts) q-input-starts) ⊛ ‵ (flft (κ-input-rows) q-input-rows) ⊛ ‵ (flft (κ-input-values) q-input-values) ⊛ ‵ (flft (ν1-5 ∷ []) fullShare) ⊛ ‵ (flft (ν1-6 ∷ []) fullShare) ⊛ ‵ (flft (ν1-7 ∷ []) fullShare) ⊛ ‵ (flft (ν1-8 ∷ []) fullShare) ⊛ ‵ (flft (ν1-9 ∷ []) fullShare) ⊛ ‵ (flft (ν1-10 ∷ []) fullShare) ⊛ ‵ (flft (ν1-11 ∷ []) fullShare) ⊛ ‵ (flft (ν1-12 ∷ []) fullShare) ⊛ ‵ (flft (ν1-13 ∷ []) fullShare) ⊛ ‵ ftrue) ∷ ‵ (owns (usize ∷ ShrSlice (named 0) (κ-input-starts) usize ∷ ShrSlice (named 1) (κ-input-rows) usize ∷ ShrSlice (named 2) (κ-input-values) f64 ∷ usize ∷ MutSlice (named 3) (ν1-5 ∷ []) usize ∷ MutSlice (named 4) (ν1-6 ∷ []) usize ∷ MutSlice (named 5) (ν1-7 ∷ []) usize ∷ MutSlice (named 6) (ν1-8 ∷ []) usize ∷ MutSlice (named 7) (ν1-9 ∷ []) usize ∷ MutSlice (named 8) (ν1-10 ∷ []) usize ∷ MutSlice (named 9) (ν1-11 ∷ []) usize ∷ MutSlice (named 10) (ν1-12 ∷ []) usize ∷ MutSlice (named 11) (ν1-13 ∷ []) T-Update.the-row ∷ []) (n, (ref-input-starts γ-input-starts input-starts, (ref-input-rows γ-input-rows input-rows, (ref-input-values γ-input-values input-values, (cap, (ref-permutation δ1-5 permutation, (ref-firsts δ1-6 firsts, (ref-starts δ1-7 starts, (ref-groups δ1-8 groups, (ref-tasks δ1-9 tasks, (ref-top δ1-10 top, (ref-words δ1-11 words, (ref-rows δ1-12 rows, (ref-updates δ1-13 updates, tt)))))))))))))) (vint w64 n ∷ [], (s-input-starts ∷ [], (s-input-rows ∷ [], (s-input-values ∷ [], (vint w64 cap ∷ [], (s-permutation ∷ [], (s-firsts ∷ [], (s-starts ∷ [], (s-groups ∷ [], (s-tasks ∷ [], (s-top ∷ [], (s-words ∷ [], (s-rows ∷ [], (s-updates ∷ [], tt))))))))))))))) ∷ []) ∵ w-join ! $ w-frame ! $ done !
 
     asked2 : (u1 : Outcome) (r1 : Val) (is1 : Is T-Outcome.the-row u1 (r1 ∷ [])) (c1-permutation : List ℕ) (c1-firsts : List ℕ) (c1-starts : List ℕ) (c1-groups : List ℕ) (c1-tasks : List ℕ) (c1-top : List ℕ) (c1-words : List ℕ) (c1-rows : List ℕ) (c1-updates : List Update) (d1 : Settles (analyse (matrix n (input-starts) (input-rows) (input-values)) cap (lentStructure (length (permutation)) (length (firsts)) (length (starts)) (length (groups)) (length (tasks)) (length (top)) (length (words)) (length (rows)) (length (updates)))) u1 (c1-permutation) (c1-firsts) (c1-starts) (c1-groups) (c1-tasks) (c1-top) (c1-words) (c1-rows) (c1-updates)) (same1-permutation : length c1-permutation ≡ length permutation) (same1-firsts : length c1-firsts ≡ length firsts) (same1-starts : length c1-starts ≡ length starts) (same1-groups : length c1-groups ≡ length groups) (same1-tasks : length c1-tasks ≡ length tasks) (same1-top : length c1-top ≡ length top) (same1-words : length c1-words ≡ length words) (same1-rows : length c1-rows ≡ length rows) (same1-updates : length c1-updates ≡ length updates) (ν2-1 : ℕ) (δ2-1 : GName) → ent 𝓤 (onEntry 𝓤 H A f-cross.signature (ν2-1 ∷ [], tt) (fullShare, tt) (u1, (ref-results δ2-1 results, tt)) (r1 ∷ [], (s-results ∷ [], tt))) (C-cross 𝓤 H A mem run .pre (((ν2-1 ∷ [], tt), (fullShare, tt), tt, (u1, (ref-results δ2-1 results, tt)), (r1 ∷ [], (s-results ∷ [], tt))), tt))
     asked2 u1 r1 is1 c1-permutation c1-firsts c1-starts c1-groups c1-tasks c1-top c1-words c1-rows c1-updates d1 same1-permutation same1-firsts same1-starts same1-groups same1-tasks same1-top same1-words same1-rows same1-updates ν2-1 δ2-1 =
@@ -338,11 +339,12 @@ module _ {M : Type 1} (𝓤 : URA M) (H : Heap 𝓤) (A : Atoms 𝓤) (W : Given
           w-calls-at ! fm (C-cross 𝓤 H A mem run) known-cross (((ν2-1 ∷ [], tt), (fullShare, tt), tt, (u1, (ref-results δ2-1 results, tt)), (r1 ∷ [], (s-results ∷ [], tt))), tt) (w-and-then ! (w-load ! (w-from ! (w-stop !)) (w-look ! 9 refl)) (w-and-then ! (w-load ! (w-from ! (w-stop !)) (w-look ! 3 refl)) (w-no-more !))) (λ r2.
           use1 W (later (some (λ (u′ : ℕ). ((‵ (flft (ν2-1 ∷ []) fullShare) ⊛ ‵ ftrue) ⊛ ‵ (usize .own u′ (r2 ∷ []))) ⊛ raw (ensured 𝓤 H A f-cross.ended (f-cross.clauses 𝓤 H A mem run) (ν2-1 ∷ [], tt) (u1, (ref-results δ2-1 results, tt)) tt u′)))) (id⊢ 𝓤 _) $ w-await ! tt $ w-pick ! (λ u2.
           w-split ! $ w-move ! (1 ∷ []) $ use1 W (some (λ (zs2 : Unit {0} × (List ℕ × Unit {0})). ‵ (lasts f-cross.ended (ν2-1 ∷ [], tt) (u1, (ref-results δ2-1 results, tt)) zs2) ⊛ raw (fact 𝓤 (((zs2 .1 .0) ≡ outcomeWords u1) × (u2 ≡ number (u1 .answer)))))) (id⊢ 𝓤 _) $ w-pick ! (λ zs2. w-split ! $ w-move ! (1 ∷ []) $ w-heard ! (((zs2 .1 .0) ≡ outcomeWords u1) × (u2 ≡ number (u1 .answer))) (λ d2.
-          w-fsplit ! $ w-drop ! $ w-fsplit ! $ w-move ! (1 ∷ []) $ w-drop ! $
+          w-past ! $ w-fsplit ! $ w-move ! (1 ∷ []) $ w-drop ! $
           w-move ! (1 ∷ []) $ w-split ! $ w-move ! (1 ∷ []) $ w-peeks ! usize (Is usize) (shows 𝓤 H A usize) u2 (r2 ∷ []) (λ is2. w-land ! (w-from ! (w-stop !)) (w-init ! 8 refl (uint-lawful 𝓤 H A W w64 .typed u2 _ is2 .0)) $
           w-drop ! $ w-split ! $ w-lft-end ! tt $ w-move ! (0 ∷ 3 ∷ 2 ∷ []) $ use3 W (later (‵ (MutRef (named 12) κ-results (Array usize 12) .own (ref-results γ-results (zs2 .1 .0)) (s-results ∷ [])) ⊛ ‵ (flft κ-results q-results))) (ref-comes-back 𝓤 H A W (Array usize 12) (named 12) κ-results (ν2-1 ∷ []) q-results γ-results b-results o-results δ2-1 results (zs2 .1 .0)) $ w-await ! tt $ w-split ! $
           w-move ! (2 ∷ []) $ w-drop ! $
           w-forget ! 3 refl $ w-move ! (3 ∷ []) $ w-pack ! (‵ (froom ty35 l35 0) ∷ []) $
+          w-written ! (raw (Packed 𝓤 H A spare2) ∷ ‵ (MutRef (named 12) κ-results (Array usize 12) .own (ref-results γ-results (zs2 .1 .0)) (s-results ∷ [])) ∷ ‵ (flft κ-results q-results) ∷ raw (Packed 𝓤 H A (‵ (ShrSlice (named 0) κ-input-starts usize .own (ref-input-starts γ-input-starts input-starts) (sliceVal (b-input-starts, o-input-starts) (length input-starts) ∷ [])) ∷ ‵ (ShrSlice (named 1) κ-input-rows usize .own (ref-input-rows γ-input-rows input-rows) (sliceVal (b-input-rows, o-input-rows) (length input-rows) ∷ [])) ∷ ‵ (ShrSlice (named 2) κ-input-values f64 .own (ref-input-values γ-input-values input-values) (sliceVal (b-input-values, o-input-values) (length input-values) ∷ [])) ∷ ‵ (MutSlice (named 3) κ-permutation usize .own (ref-permutation γ-permutation c1-permutation) (sliceVal (b-permutation, o-permutation) (length permutation) ∷ [])) ∷ ‵ (MutSlice (named 4) κ-firsts usize .own (ref-firsts γ-firsts c1-firsts) (sliceVal (b-firsts, o-firsts) (length firsts) ∷ [])) ∷ ‵ (MutSlice (named 5) κ-starts usize .own (ref-starts γ-starts c1-starts) (sliceVal (b-starts, o-starts) (length starts) ∷ [])) ∷ ‵ (MutSlice (named 6) κ-groups usize .own (ref-groups γ-groups c1-groups) (sliceVal (b-groups, o-groups) (length groups) ∷ [])) ∷ ‵ (MutSlice (named 7) κ-tasks usize .own (ref-tasks γ-tasks c1-tasks) (sliceVal (b-tasks, o-tasks) (length tasks) ∷ [])) ∷ ‵ (MutSlice (named 8) κ-top usize .own (ref-top γ-top c1-top) (sliceVal (b-top, o-top) (length top) ∷ [])) ∷ ‵ (MutSlice (named 10) κ-rows usize .own (ref-rows γ-rows c1-rows) (sliceVal (b-rows, o-rows) (length rows) ∷ [])) ∷ ‵ (MutSlice (named 11) κ-updates T-Update.the-row .own (ref-updates γ-updates c1-updates) (sliceVal (b-updates, o-updates) (length updates) ∷ [])) ∷ ‵ (flft κ-input-starts q-input-starts) ∷ ‵ (flft κ-input-rows q-input-rows) ∷ ‵ (flft κ-input-values q-input-values) ∷ ‵ (flft κ-permutation q-permutation) ∷ ‵ (flft κ-firsts q-firsts) ∷ ‵ (flft κ-starts q-starts) ∷ ‵ (flft κ-groups q-groups) ∷ ‵ (flft κ-tasks q-tasks) ∷ ‵ (flft κ-top q-top) ∷ ‵ (flft κ-rows q-rows) ∷ ‵ (flft κ-updates q-updates) ∷ ‵ (fat fullShare ty1 l1 0 (vint w64 n)) ∷ ‵ (fat fullShare ty2 l2 0 s-input-starts) ∷ ‵ (fat fullShare ty3 l3 0 s-input-rows) ∷ ‵ (fat fullShare ty4 l4 0 s-input-values) ∷ ‵ (fat fullShare ty5 l5 0 (vint w64 cap)) ∷ ‵ (fat fullShare ty6 l6 0 s-permutation) ∷ ‵ (fat fullShare ty7 l7 0 s-firsts) ∷ ‵ (fat fullShare ty8 l8 0 s-starts) ∷ ‵ (fat fullShare ty9 l9 0 s-groups) ∷ ‵ (fat fullShare ty10 l10 0 s-tasks) ∷ ‵ (fat fullShare ty11 l11 0 s-top) ∷ ‵ (fat fullShare ty13 l13 0 s-rows) ∷ ‵ (fat fullShare ty14 l14 0 s-updates) ∷ raw (Packed 𝓤 H A spare1) ∷ raw (Packed 𝓤 H A dying) ∷ [])) ∷ ‵ (MutSlice (named 9) κ-words usize .own (ref-words γ-words c1-words) (sliceVal (b-words, o-words) (length words) ∷ [])) ∷ ‵ (flft κ-words q-words) ∷ ‵ (fat fullShare ty0 l0 0 r2) ∷ ‵ (fat fullShare ty12 l12 0 s-words) ∷ ‵ (fat fullShare ty15 l15 0 s-results) ∷ ‵ (fat fullShare ty16 l16 0 r1) ∷ []) $
           w-move ! (3 ∷ []) $ w-unpack ! (‵ (ShrSlice (named 0) κ-input-starts usize .own (ref-input-starts γ-input-starts input-starts) (sliceVal (b-input-starts, o-input-starts) (length input-starts) ∷ [])) ∷ ‵ (ShrSlice (named 1) κ-input-rows usize .own (ref-input-rows γ-input-rows input-rows) (sliceVal (b-input-rows, o-input-rows) (length input-rows) ∷ [])) ∷ ‵ (ShrSlice (named 2) κ-input-values f64 .own (ref-input-values γ-input-values input-values) (sliceVal (b-input-values, o-input-values) (length input-values) ∷ [])) ∷ ‵ (MutSlice (named 3) κ-permutation usize .own (ref-permutation γ-permutation c1-permutation) (sliceVal (b-permutation, o-permutation) (length permutation) ∷ [])) ∷ ‵ (MutSlice (named 4) κ-firsts usize .own (ref-firsts γ-firsts c1-firsts) (sliceVal (b-firsts, o-firsts) (length firsts) ∷ [])) ∷ ‵ (MutSlice (named 5) κ-starts usize .own (ref-starts γ-starts c1-starts) (sliceVal (b-starts, o-starts) (length starts) ∷ [])) ∷ ‵ (MutSlice (named 6) κ-groups usize .own (ref-groups γ-groups c1-groups) (sliceVal (b-groups, o-groups) (length groups) ∷ [])) ∷ ‵ (MutSlice (named 7) κ-tasks usize .own (ref-tasks γ-tasks c1-tasks) (sliceVal (b-tasks, o-tasks) (length tasks) ∷ [])) ∷ ‵ (MutSlice (named 8) κ-top usize .own (ref-top γ-top c1-top) (sliceVal (b-top, o-top) (length top) ∷ [])) ∷ ‵ (MutSlice (named 10) κ-rows usize .own (ref-rows γ-rows c1-rows) (sliceVal (b-rows, o-rows) (length rows) ∷ [])) ∷ ‵ (MutSlice (named 11) κ-updates T-Update.the-row .own (ref-updates γ-updates c1-updates) (sliceVal (b-updates, o-updates) (length updates) ∷ [])) ∷ ‵ (flft κ-input-starts q-input-starts) ∷ ‵ (flft κ-input-rows q-input-rows) ∷ ‵ (flft κ-input-values q-input-values) ∷ ‵ (flft κ-permutation q-permutation) ∷ ‵ (flft κ-firsts q-firsts) ∷ ‵ (flft κ-starts q-starts) ∷ ‵ (flft κ-groups q-groups) ∷ ‵ (flft κ-tasks q-tasks) ∷ ‵ (flft κ-top q-top) ∷ ‵ (flft κ-rows q-rows) ∷ ‵ (flft κ-updates q-updates) ∷ ‵ (fat fullShare ty1 l1 0 (vint w64 n)) ∷ ‵ (fat fullShare ty2 l2 0 s-input-starts) ∷ ‵ (fat fullShare ty3 l3 0 s-input-rows) ∷ ‵ (fat fullShare ty4 l4 0 s-input-values) ∷ ‵ (fat fullShare ty5 l5 0 (vint w64 cap)) ∷ ‵ (fat fullShare ty6 l6 0 s-permutation) ∷ ‵ (fat fullShare ty7 l7 0 s-firsts) ∷ ‵ (fat fullShare ty8 l8 0 s-starts) ∷ ‵ (fat fullShare ty9 l9 0 s-groups) ∷ ‵ (fat fullShare ty10 l10 0 s-tasks) ∷ ‵ (fat fullShare ty11 l11 0 s-top) ∷ ‵ (fat fullShare ty13 l13 0 s-rows) ∷ ‵ (fat fullShare ty14 l14 0 s-updates) ∷ raw (Packed 𝓤 H A spare1) ∷ raw (Packed 𝓤 H A dying) ∷ []) $
           w-keep ! (0 ∷ 1 ∷ 2 ∷ 3 ∷ 4 ∷ 5 ∷ 6 ∷ 7 ∷ 8 ∷ 40 ∷ 9 ∷ 10 ∷ 38 ∷ 11 ∷ 12 ∷ 13 ∷ 14 ∷ 15 ∷ 16 ∷ 17 ∷ 18 ∷ 19 ∷ 41 ∷ 20 ∷ 21 ∷ 39 ∷ 42 ∷ 22 ∷ 23 ∷ 24 ∷ 25 ∷ 26 ∷ 27 ∷ 28 ∷ 29 ∷ 30 ∷ 31 ∷ 32 ∷ 43 ∷ 33 ∷ 34 ∷ 44 ∷ 45 ∷ 35 ∷ 37 ∷ 36 ∷ []) $ after2 u1 r1 is1 c1-permutation c1-firsts c1-starts c1-groups c1-tasks c1-top c1-words c1-rows c1-updates d1 same1-permutation same1-firsts same1-starts same1-groups same1-tasks same1-top same1-words same1-rows same1-updates u2 r2 is2 (zs2 .1 .0) d2)))))))
 
@@ -362,36 +364,43 @@ module _ {M : Type 1} (𝓤 : URA M) (H : Heap 𝓤) (A : Atoms 𝓤) (W : Given
           w-move ! (19 ∷ []) $ use1 W (‵ (ShrSlice (named 0) κ-input-starts usize .own (ref-input-starts γ-input-starts input-starts) (sliceVal (b-input-starts, o-input-starts) (length input-starts) ∷ [])) ⊛ ‵ (ShrSlice (named 0) κ-input-starts usize .own (ref-input-starts γ-input-starts input-starts) (sliceVal (b-input-starts, o-input-starts) (length input-starts) ∷ []))) (shr-slice-copy 𝓤 H A W (named 0) κ-input-starts usize .twice (ref-input-starts γ-input-starts input-starts) (s-input-starts ∷ [])) $ w-split ! $
           w-move ! (21 ∷ []) $ use1 W (‵ (ShrSlice (named 1) κ-input-rows usize .own (ref-input-rows γ-input-rows input-rows) (sliceVal (b-input-rows, o-input-rows) (length input-rows) ∷ [])) ⊛ ‵ (ShrSlice (named 1) κ-input-rows usize .own (ref-input-rows γ-input-rows input-rows) (sliceVal (b-input-rows, o-input-rows) (length input-rows) ∷ []))) (shr-slice-copy 𝓤 H A W (named 1) κ-input-rows usize .twice (ref-input-rows γ-input-rows input-rows) (s-input-rows ∷ [])) $ w-split ! $
           w-move ! (23 ∷ []) $ use1 W (‵ (ShrSlice (named 2) κ-input-values f64 .own (ref-input-values γ-input-values input-values) (sliceVal (b-input-values, o-input-values) (length input-values) ∷ [])) ⊛ ‵ (ShrSlice (named 2) κ-input-values f64 .own (ref-input-values γ-input-values input-values) (sliceVal (b-input-values, o-input-values) (length input-values) ∷ []))) (shr-slice-copy 𝓤 H A W (named 2) κ-input-values f64 .twice (ref-input-values γ-input-values input-values) (s-input-values ∷ [])) $ w-split ! $
-          w-lft-new ! tt (λ ν1-5. w-move ! (26 ∷ 38 ∷ []) $ use2 W (later (some (λ (δ : GName). ‵ (MutSlice (named 3) (ν1-5 ∷ []) usize .own (ref-permutation δ permutation) (sliceVal (b-permutation, o-permutation) (length permutation) ∷ [])) ⊛ ‵ (LentAgain usize κ-permutation (ν1-5 ∷ []) q-permutation γ-permutation b-permutation o-permutation δ permutation)))) (lends-again usize κ-permutation (ν1-5 ∷ []) q-permutation γ-permutation b-permutation o-permutation 𝓤 H A W (named 3) (named 3) permutation) $ w-await ! tt $ w-pick ! (λ δ1-5. w-split ! $
-          w-lft-new ! tt (λ ν1-6. w-move ! (29 ∷ 40 ∷ []) $ use2 W (later (some (λ (δ : GName). ‵ (MutSlice (named 4) (ν1-6 ∷ []) usize .own (ref-firsts δ firsts) (sliceVal (b-firsts, o-firsts) (length firsts) ∷ [])) ⊛ ‵ (LentAgain usize κ-firsts (ν1-6 ∷ []) q-firsts γ-firsts b-firsts o-firsts δ firsts)))) (lends-again usize κ-firsts (ν1-6 ∷ []) q-firsts γ-firsts b-firsts o-firsts 𝓤 H A W (named 4) (named 4) firsts) $ w-await ! tt $ w-pick ! (λ δ1-6. w-split ! $
-          w-lft-new ! tt (λ ν1-7. w-move ! (32 ∷ 42 ∷ []) $ use2 W (later (some (λ (δ : GName). ‵ (MutSlice (named 5) (ν1-7 ∷ []) usize .own (ref-starts δ starts) (sliceVal (b-starts, o-starts) (length starts) ∷ [])) ⊛ ‵ (LentAgain usize κ-starts (ν1-7 ∷ []) q-starts γ-starts b-starts o-starts δ starts)))) (lends-again usize κ-starts (ν1-7 ∷ []) q-starts γ-starts b-starts o-starts 𝓤 H A W (named 5) (named 5) starts) $ w-await ! tt $ w-pick ! (λ δ1-7. w-split ! $
-          w-lft-new ! tt (λ ν1-8. w-move ! (35 ∷ 44 ∷ []) $ use2 W (later (some (λ (δ : GName). ‵ (MutSlice (named 6) (ν1-8 ∷ []) usize .own (ref-groups δ groups) (sliceVal (b-groups, o-groups) (length groups) ∷ [])) ⊛ ‵ (LentAgain usize κ-groups (ν1-8 ∷ []) q-groups γ-groups b-groups o-groups δ groups)))) (lends-again usize κ-groups (ν1-8 ∷ []) q-groups γ-groups b-groups o-groups 𝓤 H A W (named 6) (named 6) groups) $ w-await ! tt $ w-pick ! (λ δ1-8. w-split ! $
-          w-lft-new ! tt (λ ν1-9. w-move ! (38 ∷ 46 ∷ []) $ use2 W (later (some (λ (δ : GName). ‵ (MutSlice (named 7) (ν1-9 ∷ []) usize .own (ref-tasks δ tasks) (sliceVal (b-tasks, o-tasks) (length tasks) ∷ [])) ⊛ ‵ (LentAgain usize κ-tasks (ν1-9 ∷ []) q-tasks γ-tasks b-tasks o-tasks δ tasks)))) (lends-again usize κ-tasks (ν1-9 ∷ []) q-tasks γ-tasks b-tasks o-tasks 𝓤 H A W (named 7) (named 7) tasks) $ w-await ! tt $ w-pick ! (λ δ1-9. w-split ! $
-          w-lft-new ! tt (λ ν1-10. w-move ! (41 ∷ 48 ∷ []) $ use2 W (later (some (λ (δ : GName). ‵ (MutSlice (named 8) (ν1-10 ∷ []) usize .own (ref-top δ top) (sliceVal (b-top, o-top) (length top) ∷ [])) ⊛ ‵ (LentAgain usize κ-top (ν1-10 ∷ []) q-top γ-top b-top o-top δ top)))) (lends-again usize κ-top (ν1-10 ∷ []) q-top γ-top b-top o-top 𝓤 H A W (named 8) (named 8) top) $ w-await ! tt $ w-pick ! (λ δ1-10. w-split ! $
-          w-lft-new ! tt (λ ν1-11. w-move ! (44 ∷ 50 ∷ []) $ use2 W (later (some (λ (δ : GName). ‵ (MutSlice (named 9) (ν1-11 ∷ []) usize .own (ref-words δ words) (sliceVal (b-words, o-words) (length words) ∷ [])) ⊛ ‵ (LentAgain usize κ-words (ν1-11 ∷ []) q-words γ-words b-words o-words δ words)))) (lends-again usize κ-words (ν1-11 ∷ []) q-words γ-words b-words o-words 𝓤 H A W (named 9) (named 9) words) $ w-await ! tt $ w-pick ! (λ δ1-11. w-split ! $
-          w-lft-new ! tt (λ ν1-12. w-move ! (47 ∷ 52 ∷ []) $ use2 W (later (some (λ (δ : GName). ‵ (MutSlice (named 10) (ν1-12 ∷ []) usize .own (ref-rows δ rows) (sliceVal (b-rows, o-rows) (length rows) ∷ [])) ⊛ ‵ (LentAgain usize κ-rows (ν1-12 ∷ []) q-rows γ-rows b-rows o-rows δ rows)))) (lends-again usize κ-rows (ν1-12 ∷ []) q-rows γ-rows b-rows o-rows 𝓤 H A W (named 10) (named 10) rows) $ w-await ! tt $ w-pick ! (λ δ1-12. w-split ! $
-          w-lft-new ! tt (λ ν1-13. w-move ! (50 ∷ 54 ∷ []) $ use2 W (later (some (λ (δ : GName). ‵ (MutSlice (named 11) (ν1-13 ∷ []) T-Update.the-row .own (ref-updates δ updates) (sliceVal (b-updates, o-updates) (length updates) ∷ [])) ⊛ ‵ (LentAgain T-Update.the-row κ-updates (ν1-13 ∷ []) q-updates γ-updates b-updates o-updates δ updates)))) (lends-again T-Update.the-row κ-updates (ν1-13 ∷ []) q-updates γ-updates b-updates o-updates 𝓤 H A W (named 11) (named 11) updates) $ w-await ! tt $ w-pick ! (λ δ1-13. w-split ! $
+          w-move ! (25 ∷ 37 ∷ []) $ w-lend ! tt usize κ-permutation q-permutation γ-permutation b-permutation o-permutation (named 3) (named 3) permutation (length permutation) refl (λ ν1-5 δ1-5.
+          w-move ! (28 ∷ 39 ∷ []) $ w-lend ! tt usize κ-firsts q-firsts γ-firsts b-firsts o-firsts (named 4) (named 4) firsts (length firsts) refl (λ ν1-6 δ1-6.
+          w-move ! (31 ∷ 41 ∷ []) $ w-lend ! tt usize κ-starts q-starts γ-starts b-starts o-starts (named 5) (named 5) starts (length starts) refl (λ ν1-7 δ1-7.
+          w-written ! (‵ (MutSlice (named 5) (ν1-7 ∷ []) usize .own (ref-starts δ1-7 starts) (s-starts ∷ [])) ∷ ‵ (LentAgain usize κ-starts (ν1-7 ∷ []) q-starts γ-starts b-starts o-starts δ1-7 starts) ∷ ‵ (flft (ν1-7 ∷ []) fullShare) ∷ ‵ (MutSlice (named 4) (ν1-6 ∷ []) usize .own (ref-firsts δ1-6 firsts) (s-firsts ∷ [])) ∷ ‵ (LentAgain usize κ-firsts (ν1-6 ∷ []) q-firsts γ-firsts b-firsts o-firsts δ1-6 firsts) ∷ ‵ (flft (ν1-6 ∷ []) fullShare) ∷ ‵ (MutSlice (named 3) (ν1-5 ∷ []) usize .own (ref-permutation δ1-5 permutation) (s-permutation ∷ [])) ∷ ‵ (LentAgain usize κ-permutation (ν1-5 ∷ []) q-permutation γ-permutation b-permutation o-permutation δ1-5 permutation) ∷ ‵ (flft (ν1-5 ∷ []) fullShare) ∷ ‵ (ShrSlice (named 2) κ-input-values f64 .own (ref-input-values γ-input-values input-values) (sliceVal (b-input-values, o-input-values) (length input-values) ∷ [])) ∷ ‵ (ShrSlice (named 2) κ-input-values f64 .own (ref-input-values γ-input-values input-values) (sliceVal (b-input-values, o-input-values) (length input-values) ∷ [])) ∷ ‵ (ShrSlice (named 1) κ-input-rows usize .own (ref-input-rows γ-input-rows input-rows) (sliceVal (b-input-rows, o-input-rows) (length input-rows) ∷ [])) ∷ ‵ (ShrSlice (named 1) κ-input-rows usize .own (ref-input-rows γ-input-rows input-rows) (sliceVal (b-input-rows, o-input-rows) (length input-rows) ∷ [])) ∷ ‵ (ShrSlice (named 0) κ-input-starts usize .own (ref-input-starts γ-input-starts input-starts) (sliceVal (b-input-starts, o-input-starts) (length input-starts) ∷ [])) ∷ ‵ (ShrSlice (named 0) κ-input-starts usize .own (ref-input-starts γ-input-starts input-starts) (sliceVal (b-input-starts, o-input-starts) (length input-starts) ∷ [])) ∷ raw (Packed 𝓤 H A (‵ (MutRef (named 12) κ-results (Array usize 12) .own (ref-results γ-results results) (s-results ∷ [])) ∷ ‵ (flft κ-results q-results) ∷ ‵ (fat fullShare ty15 l15 0 s-results) ∷ raw (Packed 𝓤 H A spare2) ∷ raw (Packed 𝓤 H A dying) ∷ [])) ∷ ‵ (fat fullShare ty17 l17 0 (vptr b-permutation o-permutation)) ∷ ‵ (fat fullShare ty18 l18 0 s-permutation) ∷ ‵ (fat fullShare ty19 l19 0 (vptr b-firsts o-firsts)) ∷ ‵ (fat fullShare ty20 l20 0 s-firsts) ∷ ‵ (fat fullShare ty21 l21 0 (vptr b-starts o-starts)) ∷ ‵ (fat fullShare ty22 l22 0 s-starts) ∷ ‵ (fat fullShare ty23 l23 0 (vptr b-groups o-groups)) ∷ ‵ (fat fullShare ty24 l24 0 s-groups) ∷ ‵ (fat fullShare ty25 l25 0 (vptr b-tasks o-tasks)) ∷ ‵ (fat fullShare ty26 l26 0 s-tasks) ∷ ‵ (fat fullShare ty27 l27 0 (vptr b-top o-top)) ∷ ‵ (fat fullShare ty28 l28 0 s-top) ∷ ‵ (fat fullShare ty29 l29 0 (vptr b-words o-words)) ∷ ‵ (fat fullShare ty30 l30 0 s-words) ∷ ‵ (fat fullShare ty31 l31 0 (vptr b-rows o-rows)) ∷ ‵ (fat fullShare ty32 l32 0 s-rows) ∷ ‵ (fat fullShare ty33 l33 0 (vptr b-updates o-updates)) ∷ ‵ (fat fullShare ty34 l34 0 s-updates) ∷ ‵ (MutSlice (named 6) κ-groups usize .own (ref-groups γ-groups groups) (sliceVal (b-groups, o-groups) (length groups) ∷ [])) ∷ ‵ (MutSlice (named 7) κ-tasks usize .own (ref-tasks γ-tasks tasks) (sliceVal (b-tasks, o-tasks) (length tasks) ∷ [])) ∷ ‵ (MutSlice (named 8) κ-top usize .own (ref-top γ-top top) (sliceVal (b-top, o-top) (length top) ∷ [])) ∷ ‵ (MutSlice (named 9) κ-words usize .own (ref-words γ-words words) (sliceVal (b-words, o-words) (length words) ∷ [])) ∷ ‵ (MutSlice (named 10) κ-rows usize .own (ref-rows γ-rows rows) (sliceVal (b-rows, o-rows) (length rows) ∷ [])) ∷ ‵ (MutSlice (named 11) κ-updates T-Update.the-row .own (ref-updates γ-updates updates) (sliceVal (b-updates, o-updates) (length updates) ∷ [])) ∷ ‵ (flft κ-input-starts q-input-starts) ∷ ‵ (flft κ-input-rows q-input-rows) ∷ ‵ (flft κ-input-values q-input-values) ∷ ‵ (flft κ-groups q-groups) ∷ ‵ (flft κ-tasks q-tasks) ∷ ‵ (flft κ-top q-top) ∷ ‵ (flft κ-words q-words) ∷ ‵ (flft κ-rows q-rows) ∷ ‵ (flft κ-updates q-updates) ∷ ‵ (froom ty0 l0 0) ∷ ‵ (fat fullShare ty1 l1 0 (vint w64 n)) ∷ ‵ (fat fullShare ty2 l2 0 s-input-starts) ∷ ‵ (fat fullShare ty3 l3 0 s-input-rows) ∷ ‵ (fat fullShare ty4 l4 0 s-input-values) ∷ ‵ (fat fullShare ty5 l5 0 (vint w64 cap)) ∷ ‵ (fat fullShare ty6 l6 0 s-permutation) ∷ ‵ (fat fullShare ty7 l7 0 s-firsts) ∷ ‵ (fat fullShare ty8 l8 0 s-starts) ∷ ‵ (fat fullShare ty9 l9 0 s-groups) ∷ ‵ (fat fullShare ty10 l10 0 s-tasks) ∷ ‵ (fat fullShare ty11 l11 0 s-top) ∷ ‵ (fat fullShare ty12 l12 0 s-words) ∷ ‵ (fat fullShare ty13 l13 0 s-rows) ∷ ‵ (fat fullShare ty14 l14 0 s-updates) ∷ ‵ (froom ty16 l16 0) ∷ []) $
+          w-move ! (34 ∷ 43 ∷ []) $ w-lend ! tt usize κ-groups q-groups γ-groups b-groups o-groups (named 6) (named 6) groups (length groups) refl (λ ν1-8 δ1-8.
+          w-move ! (37 ∷ 45 ∷ []) $ w-lend ! tt usize κ-tasks q-tasks γ-tasks b-tasks o-tasks (named 7) (named 7) tasks (length tasks) refl (λ ν1-9 δ1-9.
+          w-move ! (40 ∷ 47 ∷ []) $ w-lend ! tt usize κ-top q-top γ-top b-top o-top (named 8) (named 8) top (length top) refl (λ ν1-10 δ1-10.
+          w-written ! (‵ (MutSlice (named 8) (ν1-10 ∷ []) usize .own (ref-top δ1-10 top) (s-top ∷ [])) ∷ ‵ (LentAgain usize κ-top (ν1-10 ∷ []) q-top γ-top b-top o-top δ1-10 top) ∷ ‵ (flft (ν1-10 ∷ []) fullShare) ∷ ‵ (MutSlice (named 7) (ν1-9 ∷ []) usize .own (ref-tasks δ1-9 tasks) (s-tasks ∷ [])) ∷ ‵ (LentAgain usize κ-tasks (ν1-9 ∷ []) q-tasks γ-tasks b-tasks o-tasks δ1-9 tasks) ∷ ‵ (flft (ν1-9 ∷ []) fullShare) ∷ ‵ (MutSlice (named 6) (ν1-8 ∷ []) usize .own (ref-groups δ1-8 groups) (s-groups ∷ [])) ∷ ‵ (LentAgain usize κ-groups (ν1-8 ∷ []) q-groups γ-groups b-groups o-groups δ1-8 groups) ∷ ‵ (flft (ν1-8 ∷ []) fullShare) ∷ ‵ (MutSlice (named 5) (ν1-7 ∷ []) usize .own (ref-starts δ1-7 starts) (s-starts ∷ [])) ∷ ‵ (LentAgain usize κ-starts (ν1-7 ∷ []) q-starts γ-starts b-starts o-starts δ1-7 starts) ∷ ‵ (flft (ν1-7 ∷ []) fullShare) ∷ ‵ (MutSlice (named 4) (ν1-6 ∷ []) usize .own (ref-firsts δ1-6 firsts) (s-firsts ∷ [])) ∷ ‵ (LentAgain usize κ-firsts (ν1-6 ∷ []) q-firsts γ-firsts b-firsts o-firsts δ1-6 firsts) ∷ ‵ (flft (ν1-6 ∷ []) fullShare) ∷ ‵ (MutSlice (named 3) (ν1-5 ∷ []) usize .own (ref-permutation δ1-5 permutation) (s-permutation ∷ [])) ∷ ‵ (LentAgain usize κ-permutation (ν1-5 ∷ []) q-permutation γ-permutation b-permutation o-permutation δ1-5 permutation) ∷ ‵ (flft (ν1-5 ∷ []) fullShare) ∷ ‵ (ShrSlice (named 2) κ-input-values f64 .own (ref-input-values γ-input-values input-values) (sliceVal (b-input-values, o-input-values) (length input-values) ∷ [])) ∷ ‵ (ShrSlice (named 2) κ-input-values f64 .own (ref-input-values γ-input-values input-values) (sliceVal (b-input-values, o-input-values) (length input-values) ∷ [])) ∷ ‵ (ShrSlice (named 1) κ-input-rows usize .own (ref-input-rows γ-input-rows input-rows) (sliceVal (b-input-rows, o-input-rows) (length input-rows) ∷ [])) ∷ ‵ (ShrSlice (named 1) κ-input-rows usize .own (ref-input-rows γ-input-rows input-rows) (sliceVal (b-input-rows, o-input-rows) (length input-rows) ∷ [])) ∷ ‵ (ShrSlice (named 0) κ-input-starts usize .own (ref-input-starts γ-input-starts input-starts) (sliceVal (b-input-starts, o-input-starts) (length input-starts) ∷ [])) ∷ ‵ (ShrSlice (named 0) κ-input-starts usize .own (ref-input-starts γ-input-starts input-starts) (sliceVal (b-input-starts, o-input-starts) (length input-starts) ∷ [])) ∷ raw (Packed 𝓤 H A (‵ (MutRef (named 12) κ-results (Array usize 12) .own (ref-results γ-results results) (s-results ∷ [])) ∷ ‵ (flft κ-results q-results) ∷ ‵ (fat fullShare ty15 l15 0 s-results) ∷ raw (Packed 𝓤 H A spare2) ∷ raw (Packed 𝓤 H A dying) ∷ [])) ∷ ‵ (fat fullShare ty17 l17 0 (vptr b-permutation o-permutation)) ∷ ‵ (fat fullShare ty18 l18 0 s-permutation) ∷ ‵ (fat fullShare ty19 l19 0 (vptr b-firsts o-firsts)) ∷ ‵ (fat fullShare ty20 l20 0 s-firsts) ∷ ‵ (fat fullShare ty21 l21 0 (vptr b-starts o-starts)) ∷ ‵ (fat fullShare ty22 l22 0 s-starts) ∷ ‵ (fat fullShare ty23 l23 0 (vptr b-groups o-groups)) ∷ ‵ (fat fullShare ty24 l24 0 s-groups) ∷ ‵ (fat fullShare ty25 l25 0 (vptr b-tasks o-tasks)) ∷ ‵ (fat fullShare ty26 l26 0 s-tasks) ∷ ‵ (fat fullShare ty27 l27 0 (vptr b-top o-top)) ∷ ‵ (fat fullShare ty28 l28 0 s-top) ∷ ‵ (fat fullShare ty29 l29 0 (vptr b-words o-words)) ∷ ‵ (fat fullShare ty30 l30 0 s-words) ∷ ‵ (fat fullShare ty31 l31 0 (vptr b-rows o-rows)) ∷ ‵ (fat fullShare ty32 l32 0 s-rows) ∷ ‵ (fat fullShare ty33 l33 0 (vptr b-updates o-updates)) ∷ ‵ (fat fullShare ty34 l34 0 s-updates) ∷ ‵ (MutSlice (named 9) κ-words usize .own (ref-words γ-words words) (sliceVal (b-words, o-words) (length words) ∷ [])) ∷ ‵ (MutSlice (named 10) κ-rows usize .own (ref-rows γ-rows rows) (sliceVal (b-rows, o-rows) (length rows) ∷ [])) ∷ ‵ (MutSlice (named 11) κ-updates T-Update.the-row .own (ref-updates γ-updates updates) (sliceVal (b-updates, o-updates) (length updates) ∷ [])) ∷ ‵ (flft κ-input-starts q-input-starts) ∷ ‵ (flft κ-input-rows q-input-rows) ∷ ‵ (flft κ-input-values q-input-values) ∷ ‵ (flft κ-words q-words) ∷ ‵ (flft κ-rows q-rows) ∷ ‵ (flft κ-updates q-updates) ∷ ‵ (froom ty0 l0 0) ∷ ‵ (fat fullShare ty1 l1 0 (vint w64 n)) ∷ ‵ (fat fullShare ty2 l2 0 s-input-starts) ∷ ‵ (fat fullShare ty3 l3 0 s-input-rows) ∷ ‵ (fat fullShare ty4 l4 0 s-input-values) ∷ ‵ (fat fullShare ty5 l5 0 (vint w64 cap)) ∷ ‵ (fat fullShare ty6 l6 0 s-permutation) ∷ ‵ (fat fullShare ty7 l7 0 s-firsts) ∷ ‵ (fat fullShare ty8 l8 0 s-starts) ∷ ‵ (fat fullShare ty9 l9 0 s-groups) ∷ ‵ (fat fullShare ty10 l10 0 s-tasks) ∷ ‵ (fat fullShare ty11 l11 0 s-top) ∷ ‵ (fat fullShare ty12 l12 0 s-words) ∷ ‵ (fat fullShare ty13 l13 0 s-rows) ∷ ‵ (fat fullShare ty14 l14 0 s-updates) ∷ ‵ (froom ty16 l16 0) ∷ []) $
+          w-move ! (43 ∷ 49 ∷ []) $ w-lend ! tt usize κ-words q-words γ-words b-words o-words (named 9) (named 9) words (length words) refl (λ ν1-11 δ1-11.
+          w-move ! (46 ∷ 51 ∷ []) $ w-lend ! tt usize κ-rows q-rows γ-rows b-rows o-rows (named 10) (named 10) rows (length rows) refl (λ ν1-12 δ1-12.
+          w-move ! (49 ∷ 53 ∷ []) $ w-lend ! tt T-Update.the-row κ-updates q-updates γ-updates b-updates o-updates (named 11) (named 11) updates (length updates) refl (λ ν1-13 δ1-13.
+          w-written ! (‵ (MutSlice (named 11) (ν1-13 ∷ []) T-Update.the-row .own (ref-updates δ1-13 updates) (s-updates ∷ [])) ∷ ‵ (LentAgain T-Update.the-row κ-updates (ν1-13 ∷ []) q-updates γ-updates b-updates o-updates δ1-13 updates) ∷ ‵ (flft (ν1-13 ∷ []) fullShare) ∷ ‵ (MutSlice (named 10) (ν1-12 ∷ []) usize .own (ref-rows δ1-12 rows) (s-rows ∷ [])) ∷ ‵ (LentAgain usize κ-rows (ν1-12 ∷ []) q-rows γ-rows b-rows o-rows δ1-12 rows) ∷ ‵ (flft (ν1-12 ∷ []) fullShare) ∷ ‵ (MutSlice (named 9) (ν1-11 ∷ []) usize .own (ref-words δ1-11 words) (s-words ∷ [])) ∷ ‵ (LentAgain usize κ-words (ν1-11 ∷ []) q-words γ-words b-words o-words δ1-11 words) ∷ ‵ (flft (ν1-11 ∷ []) fullShare) ∷ ‵ (MutSlice (named 8) (ν1-10 ∷ []) usize .own (ref-top δ1-10 top) (s-top ∷ [])) ∷ ‵ (LentAgain usize κ-top (ν1-10 ∷ []) q-top γ-top b-top o-top δ1-10 top) ∷ ‵ (flft (ν1-10 ∷ []) fullShare) ∷ ‵ (MutSlice (named 7) (ν1-9 ∷ []) usize .own (ref-tasks δ1-9 tasks) (s-tasks ∷ [])) ∷ ‵ (LentAgain usize κ-tasks (ν1-9 ∷ []) q-tasks γ-tasks b-tasks o-tasks δ1-9 tasks) ∷ ‵ (flft (ν1-9 ∷ []) fullShare) ∷ ‵ (MutSlice (named 6) (ν1-8 ∷ []) usize .own (ref-groups δ1-8 groups) (s-groups ∷ [])) ∷ ‵ (LentAgain usize κ-groups (ν1-8 ∷ []) q-groups γ-groups b-groups o-groups δ1-8 groups) ∷ ‵ (flft (ν1-8 ∷ []) fullShare) ∷ ‵ (MutSlice (named 5) (ν1-7 ∷ []) usize .own (ref-starts δ1-7 starts) (s-starts ∷ [])) ∷ ‵ (LentAgain usize κ-starts (ν1-7 ∷ []) q-starts γ-starts b-starts o-starts δ1-7 starts) ∷ ‵ (flft (ν1-7 ∷ []) fullShare) ∷ ‵ (MutSlice (named 4) (ν1-6 ∷ []) usize .own (ref-firsts δ1-6 firsts) (s-firsts ∷ [])) ∷ ‵ (LentAgain usize κ-firsts (ν1-6 ∷ []) q-firsts γ-firsts b-firsts o-firsts δ1-6 firsts) ∷ ‵ (flft (ν1-6 ∷ []) fullShare) ∷ ‵ (MutSlice (named 3) (ν1-5 ∷ []) usize .own (ref-permutation δ1-5 permutation) (s-permutation ∷ [])) ∷ ‵ (LentAgain usize κ-permutation (ν1-5 ∷ []) q-permutation γ-permutation b-permutation o-permutation δ1-5 permutation) ∷ ‵ (flft (ν1-5 ∷ []) fullShare) ∷ ‵ (ShrSlice (named 2) κ-input-values f64 .own (ref-input-values γ-input-values input-values) (sliceVal (b-input-values, o-input-values) (length input-values) ∷ [])) ∷ ‵ (ShrSlice (named 2) κ-input-values f64 .own (ref-input-values γ-input-values input-values) (sliceVal (b-input-values, o-input-values) (length input-values) ∷ [])) ∷ ‵ (ShrSlice (named 1) κ-input-rows usize .own (ref-input-rows γ-input-rows input-rows) (sliceVal (b-input-rows, o-input-rows) (length input-rows) ∷ [])) ∷ ‵ (ShrSlice (named 1) κ-input-rows usize .own (ref-input-rows γ-input-rows input-rows) (sliceVal (b-input-rows, o-input-rows) (length input-rows) ∷ [])) ∷ ‵ (ShrSlice (named 0) κ-input-starts usize .own (ref-input-starts γ-input-starts input-starts) (sliceVal (b-input-starts, o-input-starts) (length input-starts) ∷ [])) ∷ ‵ (ShrSlice (named 0) κ-input-starts usize .own (ref-input-starts γ-input-starts input-starts) (sliceVal (b-input-starts, o-input-starts) (length input-starts) ∷ [])) ∷ raw (Packed 𝓤 H A (‵ (MutRef (named 12) κ-results (Array usize 12) .own (ref-results γ-results results) (s-results ∷ [])) ∷ ‵ (flft κ-results q-results) ∷ ‵ (fat fullShare ty15 l15 0 s-results) ∷ raw (Packed 𝓤 H A spare2) ∷ raw (Packed 𝓤 H A dying) ∷ [])) ∷ ‵ (fat fullShare ty17 l17 0 (vptr b-permutation o-permutation)) ∷ ‵ (fat fullShare ty18 l18 0 s-permutation) ∷ ‵ (fat fullShare ty19 l19 0 (vptr b-firsts o-firsts)) ∷ ‵ (fat fullShare ty20 l20 0 s-firsts) ∷ ‵ (fat fullShare ty21 l21 0 (vptr b-starts o-starts)) ∷ ‵ (fat fullShare ty22 l22 0 s-starts) ∷ ‵ (fat fullShare ty23 l23 0 (vptr b-groups o-groups)) ∷ ‵ (fat fullShare ty24 l24 0 s-groups) ∷ ‵ (fat fullShare ty25 l25 0 (vptr b-tasks o-tasks)) ∷ ‵ (fat fullShare ty26 l26 0 s-tasks) ∷ ‵ (fat fullShare ty27 l27 0 (vptr b-top o-top)) ∷ ‵ (fat fullShare ty28 l28 0 s-top) ∷ ‵ (fat fullShare ty29 l29 0 (vptr b-words o-words)) ∷ ‵ (fat fullShare ty30 l30 0 s-words) ∷ ‵ (fat fullShare ty31 l31 0 (vptr b-rows o-rows)) ∷ ‵ (fat fullShare ty32 l32 0 s-rows) ∷ ‵ (fat fullShare ty33 l33 0 (vptr b-updates o-updates)) ∷ ‵ (fat fullShare ty34 l34 0 s-updates) ∷ ‵ (flft κ-input-starts q-input-starts) ∷ ‵ (flft κ-input-rows q-input-rows) ∷ ‵ (flft κ-input-values q-input-values) ∷ ‵ (froom ty0 l0 0) ∷ ‵ (fat fullShare ty1 l1 0 (vint w64 n)) ∷ ‵ (fat fullShare ty2 l2 0 s-input-starts) ∷ ‵ (fat fullShare ty3 l3 0 s-input-rows) ∷ ‵ (fat fullShare ty4 l4 0 s-input-values) ∷ ‵ (fat fullShare ty5 l5 0 (vint w64 cap)) ∷ ‵ (fat fullShare ty6 l6 0 s-permutation) ∷ ‵ (fat fullShare ty7 l7 0 s-firsts) ∷ ‵ (fat fullShare ty8 l8 0 s-starts) ∷ ‵ (fat fullShare ty9 l9 0 s-groups) ∷ ‵ (fat fullShare ty10 l10 0 s-tasks) ∷ ‵ (fat fullShare ty11 l11 0 s-top) ∷ ‵ (fat fullShare ty12 l12 0 s-words) ∷ ‵ (fat fullShare ty13 l13 0 s-rows) ∷ ‵ (fat fullShare ty14 l14 0 s-updates) ∷ ‵ (froom ty16 l16 0) ∷ []) $
           w-nothing ! $ w-move ! (1 ∷ 0 ∷ []) $ w-fjoin ! $ w-move ! (3 ∷ 0 ∷ []) $ w-fjoin ! $ w-move ! (5 ∷ 0 ∷ []) $ w-fjoin ! $ w-move ! (7 ∷ 0 ∷ []) $ w-fjoin ! $ w-move ! (9 ∷ 0 ∷ []) $ w-fjoin ! $ w-move ! (11 ∷ 0 ∷ []) $ w-fjoin ! $ w-move ! (13 ∷ 0 ∷ []) $ w-fjoin ! $ w-move ! (15 ∷ 0 ∷ []) $ w-fjoin ! $ w-move ! (17 ∷ 0 ∷ []) $ w-fjoin ! $ w-owned ! usize (Is usize) (uint-makes 𝓤 H A W w64) cap _ ((refl, fits-cap)) $ w-fjoin ! $ w-move ! (19 ∷ 0 ∷ []) $ w-fjoin ! $ w-move ! (20 ∷ 0 ∷ []) $ w-fjoin ! $ w-move ! (21 ∷ 0 ∷ []) $ w-fjoin ! $ w-owned ! usize (Is usize) (uint-makes 𝓤 H A W w64) n _ ((refl, fits-n)) $ w-fjoin ! $
           w-nothing ! $ w-move ! (3 ∷ 0 ∷ []) $ w-join ! $ w-move ! (4 ∷ 0 ∷ []) $ w-join ! $ w-move ! (5 ∷ 0 ∷ []) $ w-join ! $ w-move ! (6 ∷ 0 ∷ []) $ w-join ! $ w-move ! (7 ∷ 0 ∷ []) $ w-join ! $ w-move ! (8 ∷ 0 ∷ []) $ w-join ! $ w-move ! (9 ∷ 0 ∷ []) $ w-join ! $ w-move ! (10 ∷ 0 ∷ []) $ w-join ! $ w-move ! (11 ∷ 0 ∷ []) $ w-join ! $ w-move ! (35 ∷ 0 ∷ []) $ w-join ! $ w-move ! (34 ∷ 0 ∷ []) $ w-join ! $ w-move ! (33 ∷ 0 ∷ []) $ w-join ! $
-          use2 W (raw (C-analyse 𝓤 H A mem run .pre (((κ-input-starts, (κ-input-rows, (κ-input-values, (ν1-5 ∷ [], (ν1-6 ∷ [], (ν1-7 ∷ [], (ν1-8 ∷ [], (ν1-9 ∷ [], (ν1-10 ∷ [], (ν1-11 ∷ [], (ν1-12 ∷ [], (ν1-13 ∷ [], tt)))))))))))), (q-input-starts, (q-input-rows, (q-input-values, (fullShare, (fullShare, (fullShare, (fullShare, (fullShare, (fullShare, (fullShare, (fullShare, (fullShare, tt)))))))))))), tt, (n, (ref-input-starts γ-input-starts input-starts, (ref-input-rows γ-input-rows input-rows, (ref-input-values γ-input-values input-values, (cap, (ref-permutation δ1-5 permutation, (ref-firsts δ1-6 firsts, (ref-starts δ1-7 starts, (ref-groups δ1-8 groups, (ref-tasks δ1-9 tasks, (ref-top δ1-10 top, (ref-words δ1-11 words, (ref-rows δ1-12 rows, (ref-updates δ1-13 updates, tt)))))))))))))), (vint w64 n ∷ [], (sliceVal (b-input-starts, o-input-starts) (length input-starts) ∷ [], (sliceVal (b-input-rows, o-input-rows) (length input-rows) ∷ [], (sliceVal (b-input-values, o-input-values) (length input-values) ∷ [], (vint w64 cap ∷ [], (sliceVal (b-permutation, o-permutation) (length permutation) ∷ [], (sliceVal (b-firsts, o-firsts) (length firsts) ∷ [], (sliceVal (b-starts, o-starts) (length starts) ∷ [], (sliceVal (b-groups, o-groups) (length groups) ∷ [], (sliceVal (b-tasks, o-tasks) (length tasks) ∷ [], (sliceVal (b-top, o-top) (length top) ∷ [], (sliceVal (b-words, o-words) (length words) ∷ [], (sliceVal (b-rows, o-rows) (length rows) ∷ [], (sliceVal (b-updates, o-updates) (length updates) ∷ [], tt))))))))))))))), tt))) (asked1 ν1-5 δ1-5 ν1-6 δ1-6 ν1-7 δ1-7 ν1-8 δ1-8 ν1-9 δ1-9 ν1-10 δ1-10 ν1-11 δ1-11 ν1-12 δ1-12 ν1-13 δ1-13) $
-          w-calls-at ! fm (C-analyse 𝓤 H A mem run) known-analyse (((κ-input-starts, (κ-input-rows, (κ-input-values, (ν1-5 ∷ [], (ν1-6 ∷ [], (ν1-7 ∷ [], (ν1-8 ∷ [], (ν1-9 ∷ [], (ν1-10 ∷ [], (ν1-11 ∷ [], (ν1-12 ∷ [], (ν1-13 ∷ [], tt)))))))))))), (q-input-starts, (q-input-rows, (q-input-values, (fullShare, (fullShare, (fullShare, (fullShare, (fullShare, (fullShare, (fullShare, (fullShare, (fullShare, tt)))))))))))), tt, (n, (ref-input-starts γ-input-starts input-starts, (ref-input-rows γ-input-rows input-rows, (ref-input-values γ-input-values input-values, (cap, (ref-permutation δ1-5 permutation, (ref-firsts δ1-6 firsts, (ref-starts δ1-7 starts, (ref-groups δ1-8 groups, (ref-tasks δ1-9 tasks, (ref-top δ1-10 top, (ref-words δ1-11 words, (ref-rows δ1-12 rows, (ref-updates δ1-13 updates, tt)))))))))))))), (vint w64 n ∷ [], (sliceVal (b-input-starts, o-input-starts) (length input-starts) ∷ [], (sliceVal (b-input-rows, o-input-rows) (length input-rows) ∷ [], (sliceVal (b-input-values, o-input-values) (length input-values) ∷ [], (vint w64 cap ∷ [], (sliceVal (b-permutation, o-permutation) (length permutation) ∷ [], (sliceVal (b-firsts, o-firsts) (length firsts) ∷ [], (sliceVal (b-starts, o-starts) (length starts) ∷ [], (sliceVal (b-groups, o-groups) (length groups) ∷ [], (sliceVal (b-tasks, o-tasks) (length tasks) ∷ [], (sliceVal (b-top, o-top) (length top) ∷ [], (sliceVal (b-words, o-words) (length words) ∷ [], (sliceVal (b-rows, o-rows) (length rows) ∷ [], (sliceVal (b-updates, o-updates) (length updates) ∷ [], tt))))))))))))))), tt) (w-and-then ! (w-load ! (w-from ! (w-stop !)) (w-look ! 33 refl)) (w-and-then ! (w-load ! (w-from ! (w-stop !)) (w-look ! 34 refl)) (w-and-then ! (w-load ! (w-from ! (w-stop !)) (w-look ! 35 refl)) (w-and-then ! (w-load ! (w-from ! (w-stop !)) (w-look ! 36 refl)) (w-and-then ! (w-load ! (w-from ! (w-stop !)) (w-look ! 37 refl)) (w-and-then ! (w-load ! (w-from ! (w-stop !)) (w-look ! 15 refl)) (w-and-then ! (w-load ! (w-from ! (w-stop !)) (w-look ! 17 refl)) (w-and-then ! (w-load ! (w-from ! (w-stop !)) (w-look ! 19 refl)) (w-and-then ! (w-load ! (w-from ! (w-stop !)) (w-look ! 21 refl)) (w-and-then ! (w-load ! (w-from ! (w-stop !)) (w-look ! 23 refl)) (w-and-then ! (w-load ! (w-from ! (w-stop !)) (w-look ! 25 refl)) (w-and-then ! (w-load ! (w-from ! (w-stop !)) (w-look ! 27 refl)) (w-and-then ! (w-load ! (w-from ! (w-stop !)) (w-look ! 29 refl)) (w-and-then ! (w-load ! (w-from ! (w-stop !)) (w-look ! 31 refl)) (w-no-more !))))))))))))))) (λ r1.
+          use2 W (raw (C-analyse 𝓤 H A mem run .pre (((κ-input-starts, (κ-input-rows, (κ-input-values, (ν1-5 ∷ [], (ν1-6 ∷ [], (ν1-7 ∷ [], (ν1-8 ∷ [], (ν1-9 ∷ [], (ν1-10 ∷ [], (ν1-11 ∷ [], (ν1-12 ∷ [], (ν1-13 ∷ [], tt)))))))))))), (q-input-starts, (q-input-rows, (q-input-values, (fullShare, (fullShare, (fullShare, (fullShare, (fullShare, (fullShare, (fullShare, (fullShare, (fullShare, tt)))))))))))), tt, (n, (ref-input-starts γ-input-starts input-starts, (ref-input-rows γ-input-rows input-rows, (ref-input-values γ-input-values input-values, (cap, (ref-permutation δ1-5 permutation, (ref-firsts δ1-6 firsts, (ref-starts δ1-7 starts, (ref-groups δ1-8 groups, (ref-tasks δ1-9 tasks, (ref-top δ1-10 top, (ref-words δ1-11 words, (ref-rows δ1-12 rows, (ref-updates δ1-13 updates, tt)))))))))))))), (vint w64 n ∷ [], (s-input-starts ∷ [], (s-input-rows ∷ [], (s-input-values ∷ [], (vint w64 cap ∷ [], (s-permutation ∷ [], (s-firsts ∷ [], (s-starts ∷ [], (s-groups ∷ [], (s-tasks ∷ [], (s-top ∷ [], (s-words ∷ [], (s-rows ∷ [], (s-updates ∷ [], tt))))))))))))))), tt))) (asked1 ν1-5 δ1-5 ν1-6 δ1-6 ν1-7 δ1-7 ν1-8 δ1-8 ν1-9 δ1-9 ν1-10 δ1-10 ν1-11 δ1-11 ν1-12 δ1-12 ν1-13 δ1-13) $
+          w-calls-at ! fm (C-analyse 𝓤 H A mem run) known-analyse (((κ-input-starts, (κ-input-rows, (κ-input-values, (ν1-5 ∷ [], (ν1-6 ∷ [], (ν1-7 ∷ [], (ν1-8 ∷ [], (ν1-9 ∷ [], (ν1-10 ∷ [], (ν1-11 ∷ [], (ν1-12 ∷ [], (ν1-13 ∷ [], tt)))))))))))), (q-input-starts, (q-input-rows, (q-input-values, (fullShare, (fullShare, (fullShare, (fullShare, (fullShare, (fullShare, (fullShare, (fullShare, (fullShare, tt)))))))))))), tt, (n, (ref-input-starts γ-input-starts input-starts, (ref-input-rows γ-input-rows input-rows, (ref-input-values γ-input-values input-values, (cap, (ref-permutation δ1-5 permutation, (ref-firsts δ1-6 firsts, (ref-starts δ1-7 starts, (ref-groups δ1-8 groups, (ref-tasks δ1-9 tasks, (ref-top δ1-10 top, (ref-words δ1-11 words, (ref-rows δ1-12 rows, (ref-updates δ1-13 updates, tt)))))))))))))), (vint w64 n ∷ [], (s-input-starts ∷ [], (s-input-rows ∷ [], (s-input-values ∷ [], (vint w64 cap ∷ [], (s-permutation ∷ [], (s-firsts ∷ [], (s-starts ∷ [], (s-groups ∷ [], (s-tasks ∷ [], (s-top ∷ [], (s-words ∷ [], (s-rows ∷ [], (s-updates ∷ [], tt))))))))))))))), tt) (w-and-then ! (w-load ! (w-from ! (w-stop !)) (w-look ! 33 refl)) (w-and-then ! (w-load ! (w-from ! (w-stop !)) (w-look ! 34 refl)) (w-and-then ! (w-load ! (w-from ! (w-stop !)) (w-look ! 35 refl)) (w-and-then ! (w-load ! (w-from ! (w-stop !)) (w-look ! 36 refl)) (w-and-then ! (w-load ! (w-from ! (w-stop !)) (w-look ! 37 refl)) (w-and-then ! (w-load ! (w-from ! (w-stop !)) (w-look ! 15 refl)) (w-and-then ! (w-load ! (w-from ! (w-stop !)) (w-look ! 17 refl)) (w-and-then ! (w-load ! (w-from ! (w-stop !)) (w-look ! 19 refl)) (w-and-then ! (w-load ! (w-from ! (w-stop !)) (w-look ! 21 refl)) (w-and-then ! (w-load ! (w-from ! (w-stop !)) (w-look ! 23 refl)) (w-and-then ! (w-load ! (w-from ! (w-stop !)) (w-look ! 25 refl)) (w-and-then ! (w-load ! (w-from ! (w-stop !)) (w-look ! 27 refl)) (w-and-then ! (w-load ! (w-from ! (w-stop !)) (w-look ! 29 refl)) (w-and-then ! (w-load ! (w-from ! (w-stop !)) (w-look ! 31 refl)) (w-no-more !))))))))))))))) (λ r1.
           use1 W (later (some (λ (u′ : Outcome). ((‵ (flft (κ-input-starts) q-input-starts) ⊛ ‵ (flft (κ-input-rows) q-input-rows) ⊛ ‵ (flft (κ-input-values) q-input-values) ⊛ ‵ (flft (ν1-5 ∷ []) fullShare) ⊛ ‵ (flft (ν1-6 ∷ []) fullShare) ⊛ ‵ (flft (ν1-7 ∷ []) fullShare) ⊛ ‵ (flft (ν1-8 ∷ []) fullShare) ⊛ ‵ (flft (ν1-9 ∷ []) fullShare) ⊛ ‵ (flft (ν1-10 ∷ []) fullShare) ⊛ ‵ (flft (ν1-11 ∷ []) fullShare) ⊛ ‵ (flft (ν1-12 ∷ []) fullShare) ⊛ ‵ (flft (ν1-13 ∷ []) fullShare) ⊛ ‵ ftrue) ⊛ ‵ (T-Outcome.the-row .own u′ (r1 ∷ []))) ⊛ raw (ensured 𝓤 H A f-analyse.ended (f-analyse.clauses 𝓤 H A mem run) (κ-input-starts, (κ-input-rows, (κ-input-values, (ν1-5 ∷ [], (ν1-6 ∷ [], (ν1-7 ∷ [], (ν1-8 ∷ [], (ν1-9 ∷ [], (ν1-10 ∷ [], (ν1-11 ∷ [], (ν1-12 ∷ [], (ν1-13 ∷ [], tt)))))))))))) (n, (ref-input-starts γ-input-starts input-starts, (ref-input-rows γ-input-rows input-rows, (ref-input-values γ-input-values input-values, (cap, (ref-permutation δ1-5 permutation, (ref-firsts δ1-6 firsts, (ref-starts δ1-7 starts, (ref-groups δ1-8 groups, (ref-tasks δ1-9 tasks, (ref-top δ1-10 top, (ref-words δ1-11 words, (ref-rows δ1-12 rows, (ref-updates δ1-13 updates, tt)))))))))))))) tt u′)))) (id⊢ 𝓤 _) $ w-await ! tt $ w-pick ! (λ u1.
           w-split ! $ w-move ! (1 ∷ []) $ use1 W (some (λ (zs1 : Unit {0} × (Unit {0} × (Unit {0} × (Unit {0} × (Unit {0} × (List ℕ × (List ℕ × (List ℕ × (List ℕ × (List ℕ × (List ℕ × (List ℕ × (List ℕ × (List Update × Unit {0})))))))))))))). ‵ (lasts f-analyse.ended (κ-input-starts, (κ-input-rows, (κ-input-values, (ν1-5 ∷ [], (ν1-6 ∷ [], (ν1-7 ∷ [], (ν1-8 ∷ [], (ν1-9 ∷ [], (ν1-10 ∷ [], (ν1-11 ∷ [], (ν1-12 ∷ [], (ν1-13 ∷ [], tt)))))))))))) (n, (ref-input-starts γ-input-starts input-starts, (ref-input-rows γ-input-rows input-rows, (ref-input-values γ-input-values input-values, (cap, (ref-permutation δ1-5 permutation, (ref-firsts δ1-6 firsts, (ref-starts δ1-7 starts, (ref-groups δ1-8 groups, (ref-tasks δ1-9 tasks, (ref-top δ1-10 top, (ref-words δ1-11 words, (ref-rows δ1-12 rows, (ref-updates δ1-13 updates, tt)))))))))))))) zs1) ⊛ raw (fact 𝓤 (Settles (analyse (matrix n (input-starts) (input-rows) (input-values)) cap (lentStructure (length (permutation)) (length (firsts)) (length (starts)) (length (groups)) (length (tasks)) (length (top)) (length (words)) (length (rows)) (length (updates)))) u1 ((zs1 .1 .1 .1 .1 .1 .0)) ((zs1 .1 .1 .1 .1 .1 .1 .0)) ((zs1 .1 .1 .1 .1 .1 .1 .1 .0)) ((zs1 .1 .1 .1 .1 .1 .1 .1 .1 .0)) ((zs1 .1 .1 .1 .1 .1 .1 .1 .1 .1 .0)) ((zs1 .1 .1 .1 .1 .1 .1 .1 .1 .1 .1 .0)) ((zs1 .1 .1 .1 .1 .1 .1 .1 .1 .1 .1 .1 .0)) ((zs1 .1 .1 .1 .1 .1 .1 .1 .1 .1 .1 .1 .1 .0)) ((zs1 .1 .1 .1 .1 .1 .1 .1 .1 .1 .1 .1 .1 .1 .0)))))) (id⊢ 𝓤 _) $ w-pick ! (λ zs1. w-split ! $ w-move ! (1 ∷ []) $ w-heard ! (Settles (analyse (matrix n (input-starts) (input-rows) (input-values)) cap (lentStructure (length (permutation)) (length (firsts)) (length (starts)) (length (groups)) (length (tasks)) (length (top)) (length (words)) (length (rows)) (length (updates)))) u1 ((zs1 .1 .1 .1 .1 .1 .0)) ((zs1 .1 .1 .1 .1 .1 .1 .0)) ((zs1 .1 .1 .1 .1 .1 .1 .1 .0)) ((zs1 .1 .1 .1 .1 .1 .1 .1 .1 .0)) ((zs1 .1 .1 .1 .1 .1 .1 .1 .1 .1 .0)) ((zs1 .1 .1 .1 .1 .1 .1 .1 .1 .1 .1 .0)) ((zs1 .1 .1 .1 .1 .1 .1 .1 .1 .1 .1 .1 .0)) ((zs1 .1 .1 .1 .1 .1 .1 .1 .1 .1 .1 .1 .1 .0)) ((zs1 .1 .1 .1 .1 .1 .1 .1 .1 .1 .1 .1 .1 .1 .0))) (λ d1.
-          w-fsplit ! $ w-drop ! $ w-fsplit ! $ w-drop ! $ w-fsplit ! $ w-drop ! $ w-fsplit ! $ w-drop ! $ w-fsplit ! $ w-drop ! $ w-fsplit ! $ w-fsplit ! $ w-move ! (1 ∷ []) $ w-feqL ! (λ same1-permutation. w-move ! (1 ∷ []) $ w-fsplit ! $ w-fsplit ! $ w-move ! (1 ∷ []) $ w-feqL ! (λ same1-firsts. w-move ! (1 ∷ []) $ w-fsplit ! $ w-fsplit ! $ w-move ! (1 ∷ []) $ w-feqL ! (λ same1-starts. w-move ! (1 ∷ []) $ w-fsplit ! $ w-fsplit ! $ w-move ! (1 ∷ []) $ w-feqL ! (λ same1-groups. w-move ! (1 ∷ []) $ w-fsplit ! $ w-fsplit ! $ w-move ! (1 ∷ []) $ w-feqL ! (λ same1-tasks. w-move ! (1 ∷ []) $ w-fsplit ! $ w-fsplit ! $ w-move ! (1 ∷ []) $ w-feqL ! (λ same1-top. w-move ! (1 ∷ []) $ w-fsplit ! $ w-fsplit ! $ w-move ! (1 ∷ []) $ w-feqL ! (λ same1-words. w-move ! (1 ∷ []) $ w-fsplit ! $ w-fsplit ! $ w-move ! (1 ∷ []) $ w-feqL ! (λ same1-rows. w-move ! (1 ∷ []) $ w-fsplit ! $ w-fsplit ! $ w-move ! (1 ∷ []) $ w-feqL ! (λ same1-updates. w-move ! (1 ∷ []) $ w-drop ! $
+          w-past ! $ w-past ! $ w-past ! $ w-past ! $ w-past ! $ w-last ! (λ same1-permutation. w-move ! (1 ∷ []) $ w-last ! (λ same1-firsts. w-move ! (1 ∷ []) $ w-last ! (λ same1-starts. w-move ! (1 ∷ []) $ w-last ! (λ same1-groups. w-move ! (1 ∷ []) $ w-last ! (λ same1-tasks. w-move ! (1 ∷ []) $ w-last ! (λ same1-top. w-move ! (1 ∷ []) $ w-last ! (λ same1-words. w-move ! (1 ∷ []) $ w-last ! (λ same1-rows. w-move ! (1 ∷ []) $ w-last ! (λ same1-updates. w-move ! (1 ∷ []) $ w-drop ! $
           w-move ! (9 ∷ []) $ w-split ! $ w-move ! (1 ∷ []) $ w-peeks ! T-Outcome.the-row (Is T-Outcome.the-row) (shows 𝓤 H A T-Outcome.the-row) u1 (r1 ∷ []) (λ is1. w-land ! (w-from ! (w-stop !)) (w-init ! 57 refl (LL.lawful T-Outcome.the-type L-Outcome.the-laws 𝓤 H A W .typed u1 _ is1 .0)) $
-          w-drop ! $ w-split ! $ w-move ! (1 ∷ []) $ w-split ! $ w-move ! (1 ∷ []) $ w-split ! $ w-move ! (1 ∷ []) $ w-split ! $ w-lft-end ! tt $ w-move ! (0 ∷ 22 ∷ 13 ∷ []) $ use3 W (later (‵ (MutSlice (named 3) κ-permutation usize .own (ref-permutation γ-permutation (zs1 .1 .1 .1 .1 .1 .0)) (sliceVal (b-permutation, o-permutation) (length permutation) ∷ [])) ⊛ ‵ (flft κ-permutation q-permutation))) (comes-back usize κ-permutation (ν1-5 ∷ []) q-permutation γ-permutation b-permutation o-permutation 𝓤 H A W (named 3) (named 3) permutation δ1-5 (zs1 .1 .1 .1 .1 .1 .0) room-permutation same1-permutation) $ w-await ! tt $ w-split ! $
-          w-move ! (2 ∷ []) $ w-split ! $ w-lft-end ! tt $ w-move ! (0 ∷ 22 ∷ 14 ∷ []) $ use3 W (later (‵ (MutSlice (named 4) κ-firsts usize .own (ref-firsts γ-firsts (zs1 .1 .1 .1 .1 .1 .1 .0)) (sliceVal (b-firsts, o-firsts) (length firsts) ∷ [])) ⊛ ‵ (flft κ-firsts q-firsts))) (comes-back usize κ-firsts (ν1-6 ∷ []) q-firsts γ-firsts b-firsts o-firsts 𝓤 H A W (named 4) (named 4) firsts δ1-6 (zs1 .1 .1 .1 .1 .1 .1 .0) room-firsts same1-firsts) $ w-await ! tt $ w-split ! $
-          w-move ! (2 ∷ []) $ w-split ! $ w-lft-end ! tt $ w-move ! (0 ∷ 22 ∷ 15 ∷ []) $ use3 W (later (‵ (MutSlice (named 5) κ-starts usize .own (ref-starts γ-starts (zs1 .1 .1 .1 .1 .1 .1 .1 .0)) (sliceVal (b-starts, o-starts) (length starts) ∷ [])) ⊛ ‵ (flft κ-starts q-starts))) (comes-back usize κ-starts (ν1-7 ∷ []) q-starts γ-starts b-starts o-starts 𝓤 H A W (named 5) (named 5) starts δ1-7 (zs1 .1 .1 .1 .1 .1 .1 .1 .0) room-starts same1-starts) $ w-await ! tt $ w-split ! $
-          w-move ! (2 ∷ []) $ w-split ! $ w-lft-end ! tt $ w-move ! (0 ∷ 22 ∷ 16 ∷ []) $ use3 W (later (‵ (MutSlice (named 6) κ-groups usize .own (ref-groups γ-groups (zs1 .1 .1 .1 .1 .1 .1 .1 .1 .0)) (sliceVal (b-groups, o-groups) (length groups) ∷ [])) ⊛ ‵ (flft κ-groups q-groups))) (comes-back usize κ-groups (ν1-8 ∷ []) q-groups γ-groups b-groups o-groups 𝓤 H A W (named 6) (named 6) groups δ1-8 (zs1 .1 .1 .1 .1 .1 .1 .1 .1 .0) room-groups same1-groups) $ w-await ! tt $ w-split ! $
-          w-move ! (2 ∷ []) $ w-split ! $ w-lft-end ! tt $ w-move ! (0 ∷ 22 ∷ 17 ∷ []) $ use3 W (later (‵ (MutSlice (named 7) κ-tasks usize .own (ref-tasks γ-tasks (zs1 .1 .1 .1 .1 .1 .1 .1 .1 .1 .0)) (sliceVal (b-tasks, o-tasks) (length tasks) ∷ [])) ⊛ ‵ (flft κ-tasks q-tasks))) (comes-back usize κ-tasks (ν1-9 ∷ []) q-tasks γ-tasks b-tasks o-tasks 𝓤 H A W (named 7) (named 7) tasks δ1-9 (zs1 .1 .1 .1 .1 .1 .1 .1 .1 .1 .0) room-tasks same1-tasks) $ w-await ! tt $ w-split ! $
-          w-move ! (2 ∷ []) $ w-split ! $ w-lft-end ! tt $ w-move ! (0 ∷ 22 ∷ 18 ∷ []) $ use3 W (later (‵ (MutSlice (named 8) κ-top usize .own (ref-top γ-top (zs1 .1 .1 .1 .1 .1 .1 .1 .1 .1 .1 .0)) (sliceVal (b-top, o-top) (length top) ∷ [])) ⊛ ‵ (flft κ-top q-top))) (comes-back usize κ-top (ν1-10 ∷ []) q-top γ-top b-top o-top 𝓤 H A W (named 8) (named 8) top δ1-10 (zs1 .1 .1 .1 .1 .1 .1 .1 .1 .1 .1 .0) room-top same1-top) $ w-await ! tt $ w-split ! $
-          w-move ! (2 ∷ []) $ w-split ! $ w-lft-end ! tt $ w-move ! (0 ∷ 22 ∷ 19 ∷ []) $ use3 W (later (‵ (MutSlice (named 9) κ-words usize .own (ref-words γ-words (zs1 .1 .1 .1 .1 .1 .1 .1 .1 .1 .1 .1 .0)) (sliceVal (b-words, o-words) (length words) ∷ [])) ⊛ ‵ (flft κ-words q-words))) (comes-back usize κ-words (ν1-11 ∷ []) q-words γ-words b-words o-words 𝓤 H A W (named 9) (named 9) words δ1-11 (zs1 .1 .1 .1 .1 .1 .1 .1 .1 .1 .1 .1 .0) room-words same1-words) $ w-await ! tt $ w-split ! $
-          w-move ! (2 ∷ []) $ w-split ! $ w-lft-end ! tt $ w-move ! (0 ∷ 22 ∷ 20 ∷ []) $ use3 W (later (‵ (MutSlice (named 10) κ-rows usize .own (ref-rows γ-rows (zs1 .1 .1 .1 .1 .1 .1 .1 .1 .1 .1 .1 .1 .0)) (sliceVal (b-rows, o-rows) (length rows) ∷ [])) ⊛ ‵ (flft κ-rows q-rows))) (comes-back usize κ-rows (ν1-12 ∷ []) q-rows γ-rows b-rows o-rows 𝓤 H A W (named 10) (named 10) rows δ1-12 (zs1 .1 .1 .1 .1 .1 .1 .1 .1 .1 .1 .1 .1 .0) room-rows same1-rows) $ w-await ! tt $ w-split ! $
-          w-move ! (2 ∷ []) $ w-split ! $ w-lft-end ! tt $ w-move ! (0 ∷ 22 ∷ 21 ∷ []) $ use3 W (later (‵ (MutSlice (named 11) κ-updates T-Update.the-row .own (ref-updates γ-updates (zs1 .1 .1 .1 .1 .1 .1 .1 .1 .1 .1 .1 .1 .1 .0)) (sliceVal (b-updates, o-updates) (length updates) ∷ [])) ⊛ ‵ (flft κ-updates q-updates))) (comes-back T-Update.the-row κ-updates (ν1-13 ∷ []) q-updates γ-updates b-updates o-updates 𝓤 H A W (named 11) (named 11) updates δ1-13 (zs1 .1 .1 .1 .1 .1 .1 .1 .1 .1 .1 .1 .1 .1 .0) room-updates same1-updates) $ w-await ! tt $ w-split ! $
+          w-drop ! $ w-split ! $ w-move ! (1 ∷ []) $ w-split ! $ w-move ! (1 ∷ []) $ w-split ! $ w-move ! (1 ∷ 21 ∷ 12 ∷ []) $ w-back ! tt usize κ-permutation q-permutation γ-permutation b-permutation o-permutation (named 3) (named 3) permutation (length permutation) refl ν1-5 δ1-5 (zs1 .1 .1 .1 .1 .1 .0) room-permutation same1-permutation $
+          w-move ! (2 ∷ 21 ∷ 13 ∷ []) $ w-back ! tt usize κ-firsts q-firsts γ-firsts b-firsts o-firsts (named 4) (named 4) firsts (length firsts) refl ν1-6 δ1-6 (zs1 .1 .1 .1 .1 .1 .1 .0) room-firsts same1-firsts $
+          w-move ! (2 ∷ 21 ∷ 14 ∷ []) $ w-back ! tt usize κ-starts q-starts γ-starts b-starts o-starts (named 5) (named 5) starts (length starts) refl ν1-7 δ1-7 (zs1 .1 .1 .1 .1 .1 .1 .1 .0) room-starts same1-starts $
+          w-written ! (‵ (MutSlice (named 5) κ-starts usize .own (ref-starts γ-starts (zs1 .1 .1 .1 .1 .1 .1 .1 .0)) (sliceVal (b-starts, o-starts) (length starts) ∷ [])) ∷ ‵ (flft κ-starts q-starts) ∷ (‵ (flft (ν1-8 ∷ []) fullShare) ⊛ ‵ (flft (ν1-9 ∷ []) fullShare) ⊛ ‵ (flft (ν1-10 ∷ []) fullShare) ⊛ ‵ (flft (ν1-11 ∷ []) fullShare) ⊛ ‵ (flft (ν1-12 ∷ []) fullShare) ⊛ ‵ (flft (ν1-13 ∷ []) fullShare) ⊛ ‵ ftrue) ∷ ‵ (MutSlice (named 4) κ-firsts usize .own (ref-firsts γ-firsts (zs1 .1 .1 .1 .1 .1 .1 .0)) (sliceVal (b-firsts, o-firsts) (length firsts) ∷ [])) ∷ ‵ (flft κ-firsts q-firsts) ∷ ‵ (MutSlice (named 3) κ-permutation usize .own (ref-permutation γ-permutation (zs1 .1 .1 .1 .1 .1 .0)) (sliceVal (b-permutation, o-permutation) (length permutation) ∷ [])) ∷ ‵ (flft κ-permutation q-permutation) ∷ ‵ (flft κ-input-values q-input-values) ∷ ‵ (flft κ-input-rows q-input-rows) ∷ ‵ (flft κ-input-starts q-input-starts) ∷ ‵ (finally T-Update.the-row δ1-13 (zs1 .1 .1 .1 .1 .1 .1 .1 .1 .1 .1 .1 .1 .1 .0)) ∷ ‵ (finally usize δ1-12 (zs1 .1 .1 .1 .1 .1 .1 .1 .1 .1 .1 .1 .1 .0)) ∷ ‵ (finally usize δ1-11 (zs1 .1 .1 .1 .1 .1 .1 .1 .1 .1 .1 .1 .0)) ∷ ‵ (finally usize δ1-10 (zs1 .1 .1 .1 .1 .1 .1 .1 .1 .1 .1 .0)) ∷ ‵ (finally usize δ1-9 (zs1 .1 .1 .1 .1 .1 .1 .1 .1 .1 .0)) ∷ ‵ (finally usize δ1-8 (zs1 .1 .1 .1 .1 .1 .1 .1 .1 .0)) ∷ ‵ (LentAgain T-Update.the-row κ-updates (ν1-13 ∷ []) q-updates γ-updates b-updates o-updates δ1-13 updates) ∷ ‵ (LentAgain usize κ-rows (ν1-12 ∷ []) q-rows γ-rows b-rows o-rows δ1-12 rows) ∷ ‵ (LentAgain usize κ-words (ν1-11 ∷ []) q-words γ-words b-words o-words δ1-11 words) ∷ ‵ (LentAgain usize κ-top (ν1-10 ∷ []) q-top γ-top b-top o-top δ1-10 top) ∷ ‵ (LentAgain usize κ-tasks (ν1-9 ∷ []) q-tasks γ-tasks b-tasks o-tasks δ1-9 tasks) ∷ ‵ (LentAgain usize κ-groups (ν1-8 ∷ []) q-groups γ-groups b-groups o-groups δ1-8 groups) ∷ ‵ (ShrSlice (named 2) κ-input-values f64 .own (ref-input-values γ-input-values input-values) (sliceVal (b-input-values, o-input-values) (length input-values) ∷ [])) ∷ ‵ (ShrSlice (named 1) κ-input-rows usize .own (ref-input-rows γ-input-rows input-rows) (sliceVal (b-input-rows, o-input-rows) (length input-rows) ∷ [])) ∷ ‵ (ShrSlice (named 0) κ-input-starts usize .own (ref-input-starts γ-input-starts input-starts) (sliceVal (b-input-starts, o-input-starts) (length input-starts) ∷ [])) ∷ raw (Packed 𝓤 H A (‵ (MutRef (named 12) κ-results (Array usize 12) .own (ref-results γ-results results) (s-results ∷ [])) ∷ ‵ (flft κ-results q-results) ∷ ‵ (fat fullShare ty15 l15 0 s-results) ∷ raw (Packed 𝓤 H A spare2) ∷ raw (Packed 𝓤 H A dying) ∷ [])) ∷ ‵ (fat fullShare ty17 l17 0 (vptr b-permutation o-permutation)) ∷ ‵ (fat fullShare ty18 l18 0 s-permutation) ∷ ‵ (fat fullShare ty19 l19 0 (vptr b-firsts o-firsts)) ∷ ‵ (fat fullShare ty20 l20 0 s-firsts) ∷ ‵ (fat fullShare ty21 l21 0 (vptr b-starts o-starts)) ∷ ‵ (fat fullShare ty22 l22 0 s-starts) ∷ ‵ (fat fullShare ty23 l23 0 (vptr b-groups o-groups)) ∷ ‵ (fat fullShare ty24 l24 0 s-groups) ∷ ‵ (fat fullShare ty25 l25 0 (vptr b-tasks o-tasks)) ∷ ‵ (fat fullShare ty26 l26 0 s-tasks) ∷ ‵ (fat fullShare ty27 l27 0 (vptr b-top o-top)) ∷ ‵ (fat fullShare ty28 l28 0 s-top) ∷ ‵ (fat fullShare ty29 l29 0 (vptr b-words o-words)) ∷ ‵ (fat fullShare ty30 l30 0 s-words) ∷ ‵ (fat fullShare ty31 l31 0 (vptr b-rows o-rows)) ∷ ‵ (fat fullShare ty32 l32 0 s-rows) ∷ ‵ (fat fullShare ty33 l33 0 (vptr b-updates o-updates)) ∷ ‵ (fat fullShare ty34 l34 0 s-updates) ∷ ‵ (froom ty0 l0 0) ∷ ‵ (fat fullShare ty1 l1 0 (vint w64 n)) ∷ ‵ (fat fullShare ty2 l2 0 s-input-starts) ∷ ‵ (fat fullShare ty3 l3 0 s-input-rows) ∷ ‵ (fat fullShare ty4 l4 0 s-input-values) ∷ ‵ (fat fullShare ty5 l5 0 (vint w64 cap)) ∷ ‵ (fat fullShare ty6 l6 0 s-permutation) ∷ ‵ (fat fullShare ty7 l7 0 s-firsts) ∷ ‵ (fat fullShare ty8 l8 0 s-starts) ∷ ‵ (fat fullShare ty9 l9 0 s-groups) ∷ ‵ (fat fullShare ty10 l10 0 s-tasks) ∷ ‵ (fat fullShare ty11 l11 0 s-top) ∷ ‵ (fat fullShare ty12 l12 0 s-words) ∷ ‵ (fat fullShare ty13 l13 0 s-rows) ∷ ‵ (fat fullShare ty14 l14 0 s-updates) ∷ ‵ (fat fullShare ty16 l16 0 r1) ∷ []) $
+          w-move ! (2 ∷ 21 ∷ 15 ∷ []) $ w-back ! tt usize κ-groups q-groups γ-groups b-groups o-groups (named 6) (named 6) groups (length groups) refl ν1-8 δ1-8 (zs1 .1 .1 .1 .1 .1 .1 .1 .1 .0) room-groups same1-groups $
+          w-move ! (2 ∷ 21 ∷ 16 ∷ []) $ w-back ! tt usize κ-tasks q-tasks γ-tasks b-tasks o-tasks (named 7) (named 7) tasks (length tasks) refl ν1-9 δ1-9 (zs1 .1 .1 .1 .1 .1 .1 .1 .1 .1 .0) room-tasks same1-tasks $
+          w-move ! (2 ∷ 21 ∷ 17 ∷ []) $ w-back ! tt usize κ-top q-top γ-top b-top o-top (named 8) (named 8) top (length top) refl ν1-10 δ1-10 (zs1 .1 .1 .1 .1 .1 .1 .1 .1 .1 .1 .0) room-top same1-top $
+          w-written ! (‵ (MutSlice (named 8) κ-top usize .own (ref-top γ-top (zs1 .1 .1 .1 .1 .1 .1 .1 .1 .1 .1 .0)) (sliceVal (b-top, o-top) (length top) ∷ [])) ∷ ‵ (flft κ-top q-top) ∷ (‵ (flft (ν1-11 ∷ []) fullShare) ⊛ ‵ (flft (ν1-12 ∷ []) fullShare) ⊛ ‵ (flft (ν1-13 ∷ []) fullShare) ⊛ ‵ ftrue) ∷ ‵ (MutSlice (named 7) κ-tasks usize .own (ref-tasks γ-tasks (zs1 .1 .1 .1 .1 .1 .1 .1 .1 .1 .0)) (sliceVal (b-tasks, o-tasks) (length tasks) ∷ [])) ∷ ‵ (flft κ-tasks q-tasks) ∷ ‵ (MutSlice (named 6) κ-groups usize .own (ref-groups γ-groups (zs1 .1 .1 .1 .1 .1 .1 .1 .1 .0)) (sliceVal (b-groups, o-groups) (length groups) ∷ [])) ∷ ‵ (flft κ-groups q-groups) ∷ ‵ (MutSlice (named 5) κ-starts usize .own (ref-starts γ-starts (zs1 .1 .1 .1 .1 .1 .1 .1 .0)) (sliceVal (b-starts, o-starts) (length starts) ∷ [])) ∷ ‵ (flft κ-starts q-starts) ∷ ‵ (MutSlice (named 4) κ-firsts usize .own (ref-firsts γ-firsts (zs1 .1 .1 .1 .1 .1 .1 .0)) (sliceVal (b-firsts, o-firsts) (length firsts) ∷ [])) ∷ ‵ (flft κ-firsts q-firsts) ∷ ‵ (MutSlice (named 3) κ-permutation usize .own (ref-permutation γ-permutation (zs1 .1 .1 .1 .1 .1 .0)) (sliceVal (b-permutation, o-permutation) (length permutation) ∷ [])) ∷ ‵ (flft κ-permutation q-permutation) ∷ ‵ (flft κ-input-values q-input-values) ∷ ‵ (flft κ-input-rows q-input-rows) ∷ ‵ (flft κ-input-starts q-input-starts) ∷ ‵ (finally T-Update.the-row δ1-13 (zs1 .1 .1 .1 .1 .1 .1 .1 .1 .1 .1 .1 .1 .1 .0)) ∷ ‵ (finally usize δ1-12 (zs1 .1 .1 .1 .1 .1 .1 .1 .1 .1 .1 .1 .1 .0)) ∷ ‵ (finally usize δ1-11 (zs1 .1 .1 .1 .1 .1 .1 .1 .1 .1 .1 .1 .0)) ∷ ‵ (LentAgain T-Update.the-row κ-updates (ν1-13 ∷ []) q-updates γ-updates b-updates o-updates δ1-13 updates) ∷ ‵ (LentAgain usize κ-rows (ν1-12 ∷ []) q-rows γ-rows b-rows o-rows δ1-12 rows) ∷ ‵ (LentAgain usize κ-words (ν1-11 ∷ []) q-words γ-words b-words o-words δ1-11 words) ∷ ‵ (ShrSlice (named 2) κ-input-values f64 .own (ref-input-values γ-input-values input-values) (sliceVal (b-input-values, o-input-values) (length input-values) ∷ [])) ∷ ‵ (ShrSlice (named 1) κ-input-rows usize .own (ref-input-rows γ-input-rows input-rows) (sliceVal (b-input-rows, o-input-rows) (length input-rows) ∷ [])) ∷ ‵ (ShrSlice (named 0) κ-input-starts usize .own (ref-input-starts γ-input-starts input-starts) (sliceVal (b-input-starts, o-input-starts) (length input-starts) ∷ [])) ∷ raw (Packed 𝓤 H A (‵ (MutRef (named 12) κ-results (Array usize 12) .own (ref-results γ-results results) (s-results ∷ [])) ∷ ‵ (flft κ-results q-results) ∷ ‵ (fat fullShare ty15 l15 0 s-results) ∷ raw (Packed 𝓤 H A spare2) ∷ raw (Packed 𝓤 H A dying) ∷ [])) ∷ ‵ (fat fullShare ty17 l17 0 (vptr b-permutation o-permutation)) ∷ ‵ (fat fullShare ty18 l18 0 s-permutation) ∷ ‵ (fat fullShare ty19 l19 0 (vptr b-firsts o-firsts)) ∷ ‵ (fat fullShare ty20 l20 0 s-firsts) ∷ ‵ (fat fullShare ty21 l21 0 (vptr b-starts o-starts)) ∷ ‵ (fat fullShare ty22 l22 0 s-starts) ∷ ‵ (fat fullShare ty23 l23 0 (vptr b-groups o-groups)) ∷ ‵ (fat fullShare ty24 l24 0 s-groups) ∷ ‵ (fat fullShare ty25 l25 0 (vptr b-tasks o-tasks)) ∷ ‵ (fat fullShare ty26 l26 0 s-tasks) ∷ ‵ (fat fullShare ty27 l27 0 (vptr b-top o-top)) ∷ ‵ (fat fullShare ty28 l28 0 s-top) ∷ ‵ (fat fullShare ty29 l29 0 (vptr b-words o-words)) ∷ ‵ (fat fullShare ty30 l30 0 s-words) ∷ ‵ (fat fullShare ty31 l31 0 (vptr b-rows o-rows)) ∷ ‵ (fat fullShare ty32 l32 0 s-rows) ∷ ‵ (fat fullShare ty33 l33 0 (vptr b-updates o-updates)) ∷ ‵ (fat fullShare ty34 l34 0 s-updates) ∷ ‵ (froom ty0 l0 0) ∷ ‵ (fat fullShare ty1 l1 0 (vint w64 n)) ∷ ‵ (fat fullShare ty2 l2 0 s-input-starts) ∷ ‵ (fat fullShare ty3 l3 0 s-input-rows) ∷ ‵ (fat fullShare ty4 l4 0 s-input-values) ∷ ‵ (fat fullShare ty5 l5 0 (vint w64 cap)) ∷ ‵ (fat fullShare ty6 l6 0 s-permutation) ∷ ‵ (fat fullShare ty7 l7 0 s-firsts) ∷ ‵ (fat fullShare ty8 l8 0 s-starts) ∷ ‵ (fat fullShare ty9 l9 0 s-groups) ∷ ‵ (fat fullShare ty10 l10 0 s-tasks) ∷ ‵ (fat fullShare ty11 l11 0 s-top) ∷ ‵ (fat fullShare ty12 l12 0 s-words) ∷ ‵ (fat fullShare ty13 l13 0 s-rows) ∷ ‵ (fat fullShare ty14 l14 0 s-updates) ∷ ‵ (fat fullShare ty16 l16 0 r1) ∷ []) $
+          w-move ! (2 ∷ 21 ∷ 18 ∷ []) $ w-back ! tt usize κ-words q-words γ-words b-words o-words (named 9) (named 9) words (length words) refl ν1-11 δ1-11 (zs1 .1 .1 .1 .1 .1 .1 .1 .1 .1 .1 .1 .0) room-words same1-words $
+          w-move ! (2 ∷ 21 ∷ 19 ∷ []) $ w-back ! tt usize κ-rows q-rows γ-rows b-rows o-rows (named 10) (named 10) rows (length rows) refl ν1-12 δ1-12 (zs1 .1 .1 .1 .1 .1 .1 .1 .1 .1 .1 .1 .1 .0) room-rows same1-rows $
+          w-move ! (2 ∷ 21 ∷ 20 ∷ []) $ w-back ! tt T-Update.the-row κ-updates q-updates γ-updates b-updates o-updates (named 11) (named 11) updates (length updates) refl ν1-13 δ1-13 (zs1 .1 .1 .1 .1 .1 .1 .1 .1 .1 .1 .1 .1 .1 .0) room-updates same1-updates $
+          w-written ! (‵ (MutSlice (named 11) κ-updates T-Update.the-row .own (ref-updates γ-updates (zs1 .1 .1 .1 .1 .1 .1 .1 .1 .1 .1 .1 .1 .1 .0)) (sliceVal (b-updates, o-updates) (length updates) ∷ [])) ∷ ‵ (flft κ-updates q-updates) ∷ (‵ ftrue) ∷ ‵ (MutSlice (named 10) κ-rows usize .own (ref-rows γ-rows (zs1 .1 .1 .1 .1 .1 .1 .1 .1 .1 .1 .1 .1 .0)) (sliceVal (b-rows, o-rows) (length rows) ∷ [])) ∷ ‵ (flft κ-rows q-rows) ∷ ‵ (MutSlice (named 9) κ-words usize .own (ref-words γ-words (zs1 .1 .1 .1 .1 .1 .1 .1 .1 .1 .1 .1 .0)) (sliceVal (b-words, o-words) (length words) ∷ [])) ∷ ‵ (flft κ-words q-words) ∷ ‵ (MutSlice (named 8) κ-top usize .own (ref-top γ-top (zs1 .1 .1 .1 .1 .1 .1 .1 .1 .1 .1 .0)) (sliceVal (b-top, o-top) (length top) ∷ [])) ∷ ‵ (flft κ-top q-top) ∷ ‵ (MutSlice (named 7) κ-tasks usize .own (ref-tasks γ-tasks (zs1 .1 .1 .1 .1 .1 .1 .1 .1 .1 .0)) (sliceVal (b-tasks, o-tasks) (length tasks) ∷ [])) ∷ ‵ (flft κ-tasks q-tasks) ∷ ‵ (MutSlice (named 6) κ-groups usize .own (ref-groups γ-groups (zs1 .1 .1 .1 .1 .1 .1 .1 .1 .0)) (sliceVal (b-groups, o-groups) (length groups) ∷ [])) ∷ ‵ (flft κ-groups q-groups) ∷ ‵ (MutSlice (named 5) κ-starts usize .own (ref-starts γ-starts (zs1 .1 .1 .1 .1 .1 .1 .1 .0)) (sliceVal (b-starts, o-starts) (length starts) ∷ [])) ∷ ‵ (flft κ-starts q-starts) ∷ ‵ (MutSlice (named 4) κ-firsts usize .own (ref-firsts γ-firsts (zs1 .1 .1 .1 .1 .1 .1 .0)) (sliceVal (b-firsts, o-firsts) (length firsts) ∷ [])) ∷ ‵ (flft κ-firsts q-firsts) ∷ ‵ (MutSlice (named 3) κ-permutation usize .own (ref-permutation γ-permutation (zs1 .1 .1 .1 .1 .1 .0)) (sliceVal (b-permutation, o-permutation) (length permutation) ∷ [])) ∷ ‵ (flft κ-permutation q-permutation) ∷ ‵ (flft κ-input-values q-input-values) ∷ ‵ (flft κ-input-rows q-input-rows) ∷ ‵ (flft κ-input-starts q-input-starts) ∷ ‵ (ShrSlice (named 2) κ-input-values f64 .own (ref-input-values γ-input-values input-values) (sliceVal (b-input-values, o-input-values) (length input-values) ∷ [])) ∷ ‵ (ShrSlice (named 1) κ-input-rows usize .own (ref-input-rows γ-input-rows input-rows) (sliceVal (b-input-rows, o-input-rows) (length input-rows) ∷ [])) ∷ ‵ (ShrSlice (named 0) κ-input-starts usize .own (ref-input-starts γ-input-starts input-starts) (sliceVal (b-input-starts, o-input-starts) (length input-starts) ∷ [])) ∷ raw (Packed 𝓤 H A (‵ (MutRef (named 12) κ-results (Array usize 12) .own (ref-results γ-results results) (s-results ∷ [])) ∷ ‵ (flft κ-results q-results) ∷ ‵ (fat fullShare ty15 l15 0 s-results) ∷ raw (Packed 𝓤 H A spare2) ∷ raw (Packed 𝓤 H A dying) ∷ [])) ∷ ‵ (fat fullShare ty17 l17 0 (vptr b-permutation o-permutation)) ∷ ‵ (fat fullShare ty18 l18 0 s-permutation) ∷ ‵ (fat fullShare ty19 l19 0 (vptr b-firsts o-firsts)) ∷ ‵ (fat fullShare ty20 l20 0 s-firsts) ∷ ‵ (fat fullShare ty21 l21 0 (vptr b-starts o-starts)) ∷ ‵ (fat fullShare ty22 l22 0 s-starts) ∷ ‵ (fat fullShare ty23 l23 0 (vptr b-groups o-groups)) ∷ ‵ (fat fullShare ty24 l24 0 s-groups) ∷ ‵ (fat fullShare ty25 l25 0 (vptr b-tasks o-tasks)) ∷ ‵ (fat fullShare ty26 l26 0 s-tasks) ∷ ‵ (fat fullShare ty27 l27 0 (vptr b-top o-top)) ∷ ‵ (fat fullShare ty28 l28 0 s-top) ∷ ‵ (fat fullShare ty29 l29 0 (vptr b-words o-words)) ∷ ‵ (fat fullShare ty30 l30 0 s-words) ∷ ‵ (fat fullShare ty31 l31 0 (vptr b-rows o-rows)) ∷ ‵ (fat fullShare ty32 l32 0 s-rows) ∷ ‵ (fat fullShare ty33 l33 0 (vptr b-updates o-updates)) ∷ ‵ (fat fullShare ty34 l34 0 s-updates) ∷ ‵ (froom ty0 l0 0) ∷ ‵ (fat fullShare ty1 l1 0 (vint w64 n)) ∷ ‵ (fat fullShare ty2 l2 0 s-input-starts) ∷ ‵ (fat fullShare ty3 l3 0 s-input-rows) ∷ ‵ (fat fullShare ty4 l4 0 s-input-values) ∷ ‵ (fat fullShare ty5 l5 0 (vint w64 cap)) ∷ ‵ (fat fullShare ty6 l6 0 s-permutation) ∷ ‵ (fat fullShare ty7 l7 0 s-firsts) ∷ ‵ (fat fullShare ty8 l8 0 s-starts) ∷ ‵ (fat fullShare ty9 l9 0 s-groups) ∷ ‵ (fat fullShare ty10 l10 0 s-tasks) ∷ ‵ (fat fullShare ty11 l11 0 s-top) ∷ ‵ (fat fullShare ty12 l12 0 s-words) ∷ ‵ (fat fullShare ty13 l13 0 s-rows) ∷ ‵ (fat fullShare ty14 l14 0 s-updates) ∷ ‵ (fat fullShare ty16 l16 0 r1) ∷ []) $
           w-move ! (2 ∷ []) $ w-drop ! $
           w-forget ! 25 refl $ w-forget ! 26 refl $ w-forget ! 27 refl $ w-forget ! 28 refl $ w-forget ! 29 refl $ w-forget ! 30 refl $ w-forget ! 31 refl $ w-forget ! 32 refl $ w-forget ! 33 refl $ w-forget ! 34 refl $ w-forget ! 35 refl $ w-forget ! 36 refl $ w-forget ! 37 refl $ w-forget ! 38 refl $ w-forget ! 39 refl $ w-forget ! 40 refl $ w-forget ! 41 refl $ w-forget ! 42 refl $ w-move ! (25 ∷ 26 ∷ 27 ∷ 28 ∷ 29 ∷ 30 ∷ 31 ∷ 32 ∷ 33 ∷ 34 ∷ 35 ∷ 36 ∷ 37 ∷ 38 ∷ 39 ∷ 40 ∷ 41 ∷ 42 ∷ []) $ w-pack ! (‵ (froom ty17 l17 0) ∷ ‵ (froom ty18 l18 0) ∷ ‵ (froom ty19 l19 0) ∷ ‵ (froom ty20 l20 0) ∷ ‵ (froom ty21 l21 0) ∷ ‵ (froom ty22 l22 0) ∷ ‵ (froom ty23 l23 0) ∷ ‵ (froom ty24 l24 0) ∷ ‵ (froom ty25 l25 0) ∷ ‵ (froom ty26 l26 0) ∷ ‵ (froom ty27 l27 0) ∷ ‵ (froom ty28 l28 0) ∷ ‵ (froom ty29 l29 0) ∷ ‵ (froom ty30 l30 0) ∷ ‵ (froom ty31 l31 0) ∷ ‵ (froom ty32 l32 0) ∷ ‵ (froom ty33 l33 0) ∷ ‵ (froom ty34 l34 0) ∷ []) $
+          w-written ! (raw (Packed 𝓤 H A spare1) ∷ ‵ (MutSlice (named 11) κ-updates T-Update.the-row .own (ref-updates γ-updates (zs1 .1 .1 .1 .1 .1 .1 .1 .1 .1 .1 .1 .1 .1 .0)) (sliceVal (b-updates, o-updates) (length updates) ∷ [])) ∷ ‵ (flft κ-updates q-updates) ∷ ‵ (MutSlice (named 10) κ-rows usize .own (ref-rows γ-rows (zs1 .1 .1 .1 .1 .1 .1 .1 .1 .1 .1 .1 .1 .0)) (sliceVal (b-rows, o-rows) (length rows) ∷ [])) ∷ ‵ (flft κ-rows q-rows) ∷ ‵ (MutSlice (named 9) κ-words usize .own (ref-words γ-words (zs1 .1 .1 .1 .1 .1 .1 .1 .1 .1 .1 .1 .0)) (sliceVal (b-words, o-words) (length words) ∷ [])) ∷ ‵ (flft κ-words q-words) ∷ ‵ (MutSlice (named 8) κ-top usize .own (ref-top γ-top (zs1 .1 .1 .1 .1 .1 .1 .1 .1 .1 .1 .0)) (sliceVal (b-top, o-top) (length top) ∷ [])) ∷ ‵ (flft κ-top q-top) ∷ ‵ (MutSlice (named 7) κ-tasks usize .own (ref-tasks γ-tasks (zs1 .1 .1 .1 .1 .1 .1 .1 .1 .1 .0)) (sliceVal (b-tasks, o-tasks) (length tasks) ∷ [])) ∷ ‵ (flft κ-tasks q-tasks) ∷ ‵ (MutSlice (named 6) κ-groups usize .own (ref-groups γ-groups (zs1 .1 .1 .1 .1 .1 .1 .1 .1 .0)) (sliceVal (b-groups, o-groups) (length groups) ∷ [])) ∷ ‵ (flft κ-groups q-groups) ∷ ‵ (MutSlice (named 5) κ-starts usize .own (ref-starts γ-starts (zs1 .1 .1 .1 .1 .1 .1 .1 .0)) (sliceVal (b-starts, o-starts) (length starts) ∷ [])) ∷ ‵ (flft κ-starts q-starts) ∷ ‵ (MutSlice (named 4) κ-firsts usize .own (ref-firsts γ-firsts (zs1 .1 .1 .1 .1 .1 .1 .0)) (sliceVal (b-firsts, o-firsts) (length firsts) ∷ [])) ∷ ‵ (flft κ-firsts q-firsts) ∷ ‵ (MutSlice (named 3) κ-permutation usize .own (ref-permutation γ-permutation (zs1 .1 .1 .1 .1 .1 .0)) (sliceVal (b-permutation, o-permutation) (length permutation) ∷ [])) ∷ ‵ (flft κ-permutation q-permutation) ∷ ‵ (flft κ-input-values q-input-values) ∷ ‵ (flft κ-input-rows q-input-rows) ∷ ‵ (flft κ-input-starts q-input-starts) ∷ ‵ (ShrSlice (named 2) κ-input-values f64 .own (ref-input-values γ-input-values input-values) (sliceVal (b-input-values, o-input-values) (length input-values) ∷ [])) ∷ ‵ (ShrSlice (named 1) κ-input-rows usize .own (ref-input-rows γ-input-rows input-rows) (sliceVal (b-input-rows, o-input-rows) (length input-rows) ∷ [])) ∷ ‵ (ShrSlice (named 0) κ-input-starts usize .own (ref-input-starts γ-input-starts input-starts) (sliceVal (b-input-starts, o-input-starts) (length input-starts) ∷ [])) ∷ raw (Packed 𝓤 H A (‵ (MutRef (named 12) κ-results (Array usize 12) .own (ref-results γ-results results) (s-results ∷ [])) ∷ ‵ (flft κ-results q-results) ∷ ‵ (fat fullShare ty15 l15 0 s-results) ∷ raw (Packed 𝓤 H A spare2) ∷ raw (Packed 𝓤 H A dying) ∷ [])) ∷ ‵ (froom ty0 l0 0) ∷ ‵ (fat fullShare ty1 l1 0 (vint w64 n)) ∷ ‵ (fat fullShare ty2 l2 0 s-input-starts) ∷ ‵ (fat fullShare ty3 l3 0 s-input-rows) ∷ ‵ (fat fullShare ty4 l4 0 s-input-values) ∷ ‵ (fat fullShare ty5 l5 0 (vint w64 cap)) ∷ ‵ (fat fullShare ty6 l6 0 s-permutation) ∷ ‵ (fat fullShare ty7 l7 0 s-firsts) ∷ ‵ (fat fullShare ty8 l8 0 s-starts) ∷ ‵ (fat fullShare ty9 l9 0 s-groups) ∷ ‵ (fat fullShare ty10 l10 0 s-tasks) ∷ ‵ (fat fullShare ty11 l11 0 s-top) ∷ ‵ (fat fullShare ty12 l12 0 s-words) ∷ ‵ (fat fullShare ty13 l13 0 s-rows) ∷ ‵ (fat fullShare ty14 l14 0 s-updates) ∷ ‵ (fat fullShare ty16 l16 0 r1) ∷ []) $
           w-move ! (25 ∷ []) $ w-unpack ! (‵ (MutRef (named 12) κ-results (Array usize 12) .own (ref-results γ-results results) (s-results ∷ [])) ∷ ‵ (flft κ-results q-results) ∷ ‵ (fat fullShare ty15 l15 0 s-results) ∷ raw (Packed 𝓤 H A spare2) ∷ raw (Packed 𝓤 H A dying) ∷ []) $
-          w-keep ! (29 ∷ 28 ∷ 27 ∷ 22 ∷ 20 ∷ 18 ∷ 16 ∷ 14 ∷ 12 ∷ 10 ∷ 8 ∷ 6 ∷ 0 ∷ 26 ∷ 25 ∷ 24 ∷ 23 ∷ 21 ∷ 19 ∷ 17 ∷ 15 ∷ 13 ∷ 11 ∷ 9 ∷ 7 ∷ 1 ∷ 30 ∷ 31 ∷ 32 ∷ 33 ∷ 34 ∷ 35 ∷ 36 ∷ 37 ∷ 38 ∷ 39 ∷ 40 ∷ 41 ∷ 42 ∷ 43 ∷ 44 ∷ 2 ∷ 45 ∷ 5 ∷ 3 ∷ 4 ∷ []) $ after1 u1 r1 is1 (zs1 .1 .1 .1 .1 .1 .0) (zs1 .1 .1 .1 .1 .1 .1 .0) (zs1 .1 .1 .1 .1 .1 .1 .1 .0) (zs1 .1 .1 .1 .1 .1 .1 .1 .1 .0) (zs1 .1 .1 .1 .1 .1 .1 .1 .1 .1 .0) (zs1 .1 .1 .1 .1 .1 .1 .1 .1 .1 .1 .0) (zs1 .1 .1 .1 .1 .1 .1 .1 .1 .1 .1 .1 .0) (zs1 .1 .1 .1 .1 .1 .1 .1 .1 .1 .1 .1 .1 .0) (zs1 .1 .1 .1 .1 .1 .1 .1 .1 .1 .1 .1 .1 .1 .0) d1 same1-permutation same1-firsts same1-starts same1-groups same1-tasks same1-top same1-words same1-rows same1-updates))))))))))))))))))))))))))))))))
+          w-keep ! (29 ∷ 28 ∷ 27 ∷ 22 ∷ 20 ∷ 18 ∷ 16 ∷ 14 ∷ 12 ∷ 10 ∷ 8 ∷ 6 ∷ 0 ∷ 26 ∷ 25 ∷ 24 ∷ 23 ∷ 21 ∷ 19 ∷ 17 ∷ 15 ∷ 13 ∷ 11 ∷ 9 ∷ 7 ∷ 1 ∷ 30 ∷ 31 ∷ 32 ∷ 33 ∷ 34 ∷ 35 ∷ 36 ∷ 37 ∷ 38 ∷ 39 ∷ 40 ∷ 41 ∷ 42 ∷ 43 ∷ 44 ∷ 2 ∷ 45 ∷ 5 ∷ 3 ∷ 4 ∷ []) $ after1 u1 r1 is1 (zs1 .1 .1 .1 .1 .1 .0) (zs1 .1 .1 .1 .1 .1 .1 .0) (zs1 .1 .1 .1 .1 .1 .1 .1 .0) (zs1 .1 .1 .1 .1 .1 .1 .1 .1 .0) (zs1 .1 .1 .1 .1 .1 .1 .1 .1 .1 .0) (zs1 .1 .1 .1 .1 .1 .1 .1 .1 .1 .1 .0) (zs1 .1 .1 .1 .1 .1 .1 .1 .1 .1 .1 .1 .0) (zs1 .1 .1 .1 .1 .1 .1 .1 .1 .1 .1 .1 .1 .0) (zs1 .1 .1 .1 .1 .1 .1 .1 .1 .1 .1 .1 .1 .1 .0) d1 same1-permutation same1-firsts same1-starts same1-groups same1-tasks same1-top same1-words same1-rows same1-updates)))))))))))))))))))))))
 
       taken : Sq W (‵ (froom ty35 l35 0) ∷ ‵ (fdies ty35 l35) ∷ ‵ (froom ty34 l34 0) ∷ ‵ (fdies ty34 l34) ∷ ‵ (froom ty33 l33 0) ∷ ‵ (fdies ty33 l33) ∷ ‵ (froom ty32 l32 0) ∷ ‵ (fdies ty32 l32) ∷ ‵ (froom ty31 l31 0) ∷ ‵ (fdies ty31 l31) ∷ ‵ (froom ty30 l30 0) ∷ ‵ (fdies ty30 l30) ∷ ‵ (froom ty29 l29 0) ∷ ‵ (fdies ty29 l29) ∷ ‵ (froom ty28 l28 0) ∷ ‵ (fdies ty28 l28) ∷ ‵ (froom ty27 l27 0) ∷ ‵ (fdies ty27 l27) ∷ ‵ (froom ty26 l26 0) ∷ ‵ (fdies ty26 l26) ∷ ‵ (froom ty25 l25 0) ∷ ‵ (fdies ty25 l25) ∷ ‵ (froom ty24 l24 0) ∷ ‵ (fdies ty24 l24) ∷ ‵ (froom ty23 l23 0) ∷ ‵ (fdies ty23 l23) ∷ ‵ (froom ty22 l22 0) ∷ ‵ (fdies ty22 l22) ∷ ‵ (froom ty21 l21 0) ∷ ‵ (fdies ty21 l21) ∷ ‵ (froom ty20 l20 0) ∷ ‵ (fdies ty20 l20) ∷ ‵ (froom ty19 l19 0) ∷ ‵ (fdies ty19 l19) ∷ ‵ (froom ty18 l18 0) ∷ ‵ (fdies ty18 l18) ∷ ‵ (froom ty17 l17 0) ∷ ‵ (fdies ty17 l17) ∷ ‵ (froom ty16 l16 0) ∷ ‵ (fdies ty16 l16) ∷ ‵ (froom ty15 l15 0) ∷ ‵ (fdies ty15 l15) ∷ ‵ (froom ty14 l14 0) ∷ ‵ (fdies ty14 l14) ∷ ‵ (froom ty13 l13 0) ∷ ‵ (fdies ty13 l13) ∷ ‵ (froom ty12 l12 0) ∷ ‵ (fdies ty12 l12) ∷ ‵ (froom ty11 l11 0) ∷ ‵ (fdies ty11 l11) ∷ ‵ (froom ty10 l10 0) ∷ ‵ (fdies ty10 l10) ∷ ‵ (froom ty9 l9 0) ∷ ‵ (fdies ty9 l9) ∷ ‵ (froom ty8 l8 0) ∷ ‵ (fdies ty8 l8) ∷ ‵ (froom ty7 l7 0) ∷ ‵ (fdies ty7 l7) ∷ ‵ (froom ty6 l6 0) ∷ ‵ (fdies ty6 l6) ∷ ‵ (froom ty5 l5 0) ∷ ‵ (fdies ty5 l5) ∷ ‵ (froom ty4 l4 0) ∷ ‵ (fdies ty4 l4) ∷ ‵ (froom ty3 l3 0) ∷ ‵ (fdies ty3 l3) ∷ ‵ (froom ty2 l2 0) ∷ ‵ (fdies ty2 l2) ∷ ‵ (froom ty1 l1 0) ∷ ‵ (fdies ty1 l1) ∷ ‵ (froom ty0 l0 0) ∷ ‵ (fdies ty0 l0) ∷ (‵ (flft κ-input-starts q-input-starts) ⊛ ‵ (flft κ-input-rows q-input-rows) ⊛ ‵ (flft κ-input-values q-input-values) ⊛ ‵ (flft κ-permutation q-permutation) ⊛ ‵ (flft κ-firsts q-firsts) ⊛ ‵ (flft κ-starts q-starts) ⊛ ‵ (flft κ-groups q-groups) ⊛ ‵ (flft κ-tasks q-tasks) ⊛ ‵ (flft κ-top q-top) ⊛ ‵ (flft κ-words q-words) ⊛ ‵ (flft κ-rows q-rows) ⊛ ‵ (flft κ-updates q-updates) ⊛ ‵ (flft κ-results q-results) ⊛ ‵ ftrue) ∷ ‵ (owns (usize ∷ ShrSlice (named 0) κ-input-starts usize ∷ ShrSlice (named 1) κ-input-rows usize ∷ ShrSlice (named 2) κ-input-values f64 ∷ usize ∷ MutSlice (named 3) κ-permutation usize ∷ MutSlice (named 4) κ-firsts usize ∷ MutSlice (named 5) κ-starts usize ∷ MutSlice (named 6) κ-groups usize ∷ MutSlice (named 7) κ-tasks usize ∷ MutSlice (named 8) κ-top usize ∷ MutSlice (named 9) κ-words usize ∷ MutSlice (named 10) κ-rows usize ∷ MutSlice (named 11) κ-updates T-Update.the-row ∷ MutRef (named 12) κ-results (Array usize 12) ∷ []) (n, (ref-input-starts γ-input-starts input-starts, (ref-input-rows γ-input-rows input-rows, (ref-input-values γ-input-values input-values, (cap, (ref-permutation γ-permutation permutation, (ref-firsts γ-firsts firsts, (ref-starts γ-starts starts, (ref-groups γ-groups groups, (ref-tasks γ-tasks tasks, (ref-top γ-top top, (ref-words γ-words words, (ref-rows γ-rows rows, (ref-updates γ-updates updates, (ref-results γ-results results, tt))))))))))))))) at-entry) ∷ []) (params′ En (vint w64 n ∷ s-input-starts ∷ s-input-rows ∷ s-input-values ∷ vint w64 cap ∷ s-permutation ∷ s-firsts ∷ s-starts ∷ s-groups ∷ s-tasks ∷ s-top ∷ s-words ∷ s-rows ∷ s-updates ∷ s-results ∷ []) (runs C Λ En body.t-1 (atRet En Post)))
       taken =

@@ -20,7 +20,7 @@ use denote.Plain.{uint-lawful, uint-makes, uint-tells, uint-vals}
 use denote.RattleType.{owns}
 use denote.Ref.{MutRef, RefT, mut-tells, ptr-vals}
 use denote.Signature.{plain}
-use denote.Slice.{MutSlice, Room, ShrSlice, mut-slice-tells, shr-slice-copy, shr-slice-tells, slice-vals, sliceTy, sliceVal}
+use denote.Slice.{MutSlice, Room, ShrSlice, finally, mut-slice-tells, shr-slice-copy, shr-slice-tells, slice-vals, sliceTy, sliceVal}
 use denote.Steps.{heard as w-heard, nothing as w-nothing, owned as w-owned, peeks as w-peeks}
 use denote.Triple.Call.{calls-at as w-calls-at}
 use denote.Triple.Clauses.{ensured, lasts}
@@ -42,7 +42,7 @@ use prog.Memory.{Memory}
 use prog.Routine.{Routine}
 use prog.Wp.{Calls, Env, Heap, Loops, Tables, WpFn}
 use sound.WpLaws.{FmC, WpFn-mono, fmOf}
-use types.Kit.{ !, Given, Item, Sq, _$_, _∵_, _⊛_, atRet, await as w-await, by as w-by, done, drop as w-drop, feqL as w-feqL, fjoin as w-fjoin, frame as w-frame, fsplit as w-fsplit, join as w-join, keep as w-keep, later, move as w-move, params′, pick as w-pick, qed, raw, runs, some, split as w-split, suffices as w-suffices, use1, use2, use3, ‵, ⋆}
+use types.Kit.{ !, Given, Item, Sq, _$_, _∵_, _⊛_, atRet, await as w-await, by as w-by, done, drop as w-drop, fjoin as w-fjoin, frame as w-frame, fsplit as w-fsplit, join as w-join, keep as w-keep, later, move as w-move, params′, pick as w-pick, qed, raw, runs, some, split as w-split, suffices as w-suffices, use1, use2, use3, ‵, ⋆}
 use types.Part.{agg as w-agg, look-in as w-look-in, sub as w-sub, whole as w-whole}
 use types.Run.{addr as w-addr, alloc0 as w-alloc0, alloc1 as w-alloc1, and-then as w-and-then, assigns as w-assigns, enter as w-enter, fld as w-fld, forget as w-forget, from as w-from, hop as w-hop, init as w-init, land as w-land, load as w-load, look as w-look, no-more as w-no-more, params1 as w-params1, pass0 as w-pass0, pass1 as w-pass1, returns as w-returns, stop as w-stop}
 use types.Tokens.{lft-end as w-lft-end, lft-new as w-lft-new}
@@ -75,8 +75,9 @@ use Rattle.crossing.proofs.cross as f-cross
 use Rattle.crossing.proofs.cross.Symbol as def-cross
 use Rattle.crossing.proofs.cross.Symbol.{name as #crossing·cross}
 use Rattle.crossing.proofs.cross.Met as thm-cross
-use Rattle.update.proofs.Packs.{Packed, pack as w-pack, unpack as w-unpack, homes-freed as w-homes-freed}
-use Rattle.update.proofs.Again.{LentAgain, lends-again, comes-back}
+use Rattle.update.proofs.Packs.{Packed, pack as w-pack, unpack as w-unpack, written as w-written, homes-freed as w-homes-freed}
+use Rattle.update.proofs.Again.{LentAgain}
+use Rattle.update.proofs.Lending.{lend as w-lend, back as w-back, last as w-last, past as w-past}
 use Rattle.exports.proofs.nosebagged_factor.Key.{name as #exports·nosebagged-factor}
 use Rattle.exports.proofs.nosebagged_factor as here
 use Rattle.exports.proofs.nosebagged_factor.Statement as stated
@@ -375,9 +376,9 @@ module _ {M : Type 1} (𝓤 : URA M) (H : Heap 𝓤) (A : Atoms 𝓤) (W : Given
     asked2 u1 r1 is1 d1 =
         qed W ((‵ ftrue) ∷ ‵ (owns (usize ∷ []) (stop, tt) (vint w64 stop ∷ [], tt)) ∷ []) ∵ w-join ! $ w-frame ! $ done !
 
-    asked3 : (u1 : Order) (r1 : Val) (is1 : Is T-Order.the-row u1 (r1 ∷ [])) (d1 : u1 ≡ orderSaid order) (u2 : Stop) (r2 : Val) (is2 : Is T-Stop.the-row u2 (r2 ∷ [])) (d2 : u2 ≡ stopSaid stop) (ν3-8 : ℕ) (δ3-8 : GName) (ν3-9 : ℕ) (δ3-9 : GName) (ν3-10 : ℕ) (δ3-10 : GName) (ν3-11 : ℕ) (δ3-11 : GName) (ν3-12 : ℕ) (δ3-12 : GName) (ν3-13 : ℕ) (δ3-13 : GName) (ν3-14 : ℕ) (δ3-14 : GName) (ν3-15 : ℕ) (δ3-15 : GName) (ν3-16 : ℕ) (δ3-16 : GName) (ν3-17 : ℕ) (δ3-17 : GName) (ν3-18 : ℕ) (δ3-18 : GName) → ent 𝓤 (onEntry 𝓤 H A f-factor.signature (κ-input-starts, (κ-input-rows, (κ-input-values, (κ-list, (ν3-8 ∷ [], (ν3-9 ∷ [], (ν3-10 ∷ [], (ν3-11 ∷ [], (ν3-12 ∷ [], (ν3-13 ∷ [], (ν3-14 ∷ [], (ν3-15 ∷ [], (ν3-16 ∷ [], (ν3-17 ∷ [], (ν3-18 ∷ [], tt))))))))))))))) (q-input-starts, (q-input-rows, (q-input-values, (q-list, (fullShare, (fullShare, (fullShare, (fullShare, (fullShare, (fullShare, (fullShare, (fullShare, (fullShare, (fullShare, (fullShare, tt))))))))))))))) (n, (ref-input-starts γ-input-starts input-starts, (ref-input-rows γ-input-rows input-rows, (ref-input-values γ-input-values input-values, (cap, (u1, (ref-list γ-list «list», (u2, (ref-permutation δ3-8 permutation, (ref-firsts δ3-9 firsts, (ref-starts δ3-10 starts, (ref-groups δ3-11 groups, (ref-tasks δ3-12 tasks, (ref-top δ3-13 top, (ref-words δ3-14 words, (ref-floats δ3-15 floats, (ref-rows δ3-16 rows, (ref-updates δ3-17 updates, (ref-values δ3-18 values, tt))))))))))))))))))) (vint w64 n ∷ [], (sliceVal (b-input-starts, o-input-starts) (length input-starts) ∷ [], (sliceVal (b-input-rows, o-input-rows) (length input-rows) ∷ [], (sliceVal (b-input-values, o-input-values) (length input-values) ∷ [], (vint w64 cap ∷ [], (r1 ∷ [], (sliceVal (b-list, o-list) (length «list») ∷ [], (r2 ∷ [], (sliceVal (b-permutation, o-permutation) (length permutation) ∷ [], (sliceVal (b-firsts, o-firsts) (length firsts) ∷ [], (sliceVal (b-starts, o-starts) (length starts) ∷ [], (sliceVal (b-groups, o-groups) (length groups) ∷ [], (sliceVal (b-tasks, o-tasks) (length tasks) ∷ [], (sliceVal (b-top, o-top) (length top) ∷ [], (sliceVal (b-words, o-words) (length words) ∷ [], (sliceVal (b-floats, o-floats) (length floats) ∷ [], (sliceVal (b-rows, o-rows) (length rows) ∷ [], (sliceVal (b-updates, o-updates) (length updates) ∷ [], (sliceVal (b-values, o-values) (length values) ∷ [], tt)))))))))))))))))))) (C-factor 𝓤 H A mem run .pre (((κ-input-starts, (κ-input-rows, (κ-input-values, (κ-list, (ν3-8 ∷ [], (ν3-9 ∷ [], (ν3-10 ∷ [], (ν3-11 ∷ [], (ν3-12 ∷ [], (ν3-13 ∷ [], (ν3-14 ∷ [], (ν3-15 ∷ [], (ν3-16 ∷ [], (ν3-17 ∷ [], (ν3-18 ∷ [], tt))))))))))))))), (q-input-starts, (q-input-rows, (q-input-values, (q-list, (fullShare, (fullShare, (fullShare, (fullShare, (fullShare, (fullShare, (fullShare, (fullShare, (fullShare, (fullShare, (fullShare, tt))))))))))))))), tt, (n, (ref-input-starts γ-input-starts input-starts, (ref-input-rows γ-input-rows input-rows, (ref-input-values γ-input-values input-values, (cap, (u1, (ref-list γ-list «list», (u2, (ref-permutation δ3-8 permutation, (ref-firsts δ3-9 firsts, (ref-starts δ3-10 starts, (ref-groups δ3-11 groups, (ref-tasks δ3-12 tasks, (ref-top δ3-13 top, (ref-words δ3-14 words, (ref-floats δ3-15 floats, (ref-rows δ3-16 rows, (ref-updates δ3-17 updates, (ref-values δ3-18 values, tt))))))))))))))))))), (vint w64 n ∷ [], (sliceVal (b-input-starts, o-input-starts) (length input-starts) ∷ [], (sliceVal (b-input-rows, o-input-rows) (length input-rows) ∷ [], (sliceVal (b-input-values, o-input-values) (length input-values) ∷ [], (vint w64 cap ∷ [], (r1 ∷ [], (sliceVal (b-list, o-list) (length «list») ∷ [], (r2 ∷ [], (sliceVal (b-permutation, o-permutation) (length permutation) ∷ [], (sliceVal (b-firsts, o-firsts) (length firsts) ∷ [], (sliceVal (b-starts, o-starts) (length starts) ∷ [], (sliceVal (b-groups, o-groups) (length groups) ∷ [], (sliceVal (b-tasks, o-tasks) (length tasks) ∷ [], (sliceVal (b-top, o-top) (length top) ∷ [], (sliceVal (b-words, o-words) (length words) ∷ [], (sliceVal (b-floats, o-floats) (length floats) ∷ [], (sliceVal (b-rows, o-rows) (length rows) ∷ [], (sliceVal (b-updates, o-updates) (length updates) ∷ [], (sliceVal (b-values, o-values) (length values) ∷ [], tt)))))))))))))))))))), tt))
+    asked3 : (u1 : Order) (r1 : Val) (is1 : Is T-Order.the-row u1 (r1 ∷ [])) (d1 : u1 ≡ orderSaid order) (u2 : Stop) (r2 : Val) (is2 : Is T-Stop.the-row u2 (r2 ∷ [])) (d2 : u2 ≡ stopSaid stop) (ν3-8 : ℕ) (δ3-8 : GName) (ν3-9 : ℕ) (δ3-9 : GName) (ν3-10 : ℕ) (δ3-10 : GName) (ν3-11 : ℕ) (δ3-11 : GName) (ν3-12 : ℕ) (δ3-12 : GName) (ν3-13 : ℕ) (δ3-13 : GName) (ν3-14 : ℕ) (δ3-14 : GName) (ν3-15 : ℕ) (δ3-15 : GName) (ν3-16 : ℕ) (δ3-16 : GName) (ν3-17 : ℕ) (δ3-17 : GName) (ν3-18 : ℕ) (δ3-18 : GName) → ent 𝓤 (onEntry 𝓤 H A f-factor.signature (κ-input-starts, (κ-input-rows, (κ-input-values, (κ-list, (ν3-8 ∷ [], (ν3-9 ∷ [], (ν3-10 ∷ [], (ν3-11 ∷ [], (ν3-12 ∷ [], (ν3-13 ∷ [], (ν3-14 ∷ [], (ν3-15 ∷ [], (ν3-16 ∷ [], (ν3-17 ∷ [], (ν3-18 ∷ [], tt))))))))))))))) (q-input-starts, (q-input-rows, (q-input-values, (q-list, (fullShare, (fullShare, (fullShare, (fullShare, (fullShare, (fullShare, (fullShare, (fullShare, (fullShare, (fullShare, (fullShare, tt))))))))))))))) (n, (ref-input-starts γ-input-starts input-starts, (ref-input-rows γ-input-rows input-rows, (ref-input-values γ-input-values input-values, (cap, (u1, (ref-list γ-list «list», (u2, (ref-permutation δ3-8 permutation, (ref-firsts δ3-9 firsts, (ref-starts δ3-10 starts, (ref-groups δ3-11 groups, (ref-tasks δ3-12 tasks, (ref-top δ3-13 top, (ref-words δ3-14 words, (ref-floats δ3-15 floats, (ref-rows δ3-16 rows, (ref-updates δ3-17 updates, (ref-values δ3-18 values, tt))))))))))))))))))) (vint w64 n ∷ [], (s-input-starts ∷ [], (s-input-rows ∷ [], (s-input-values ∷ [], (vint w64 cap ∷ [], (r1 ∷ [], (s-list ∷ [], (r2 ∷ [], (s-permutation ∷ [], (s-firsts ∷ [], (s-starts ∷ [], (s-groups ∷ [], (s-tasks ∷ [], (s-top ∷ [], (s-words ∷ [], (s-floats ∷ [], (s-rows ∷ [], (s-updates ∷ [], (s-values ∷ [], tt)))))))))))))))))))) (C-factor 𝓤 H A mem run .pre (((κ-input-starts, (κ-input-rows, (κ-input-values, (κ-list, (ν3-8 ∷ [], (ν3-9 ∷ [], (ν3-10 ∷ [], (ν3-11 ∷ [], (ν3-12 ∷ [], (ν3-13 ∷ [], (ν3-14 ∷ [], (ν3-15 ∷ [], (ν3-16 ∷ [], (ν3-17 ∷ [], (ν3-18 ∷ [], tt))))))))))))))), (q-input-starts, (q-input-rows, (q-input-values, (q-list, (fullShare, (fullShare, (fullShare, (fullShare, (fullShare, (fullShare, (fullShare, (fullShare, (fullShare, (fullShare, (fullShare, tt))))))))))))))), tt, (n, (ref-input-starts γ-input-starts input-starts, (ref-input-rows γ-input-rows input-rows, (ref-input-values γ-input-values input-values, (cap, (u1, (ref-list γ-list «list», (u2, (ref-permutation δ3-8 permutation, (ref-firsts δ3-9 firsts, (ref-starts δ3-10 starts, (ref-groups δ3-11 groups, (ref-tasks δ3-12 tasks, (ref-top δ3-13 top, (ref-words δ3-14 words, (ref-floats δ3-15 floats, (ref-rows δ3-16 rows, (ref-updates δ3-17 updates, (ref-values δ3-18 values, tt))))))))))))))))))), (vint w64 n ∷ [], (s-input-starts ∷ [], (s-input-rows ∷ [], (s-input-values ∷ [], (vint w64 cap ∷ [], (r1 ∷ [], (s-list ∷ [], (r2 ∷ [], (s-permutation ∷ [], (s-firsts ∷ [], (s-starts ∷ [], (s-groups ∷ [], (s-tasks ∷ [], (s-top ∷ [], (s-words ∷ [], (s-floats ∷ [], (s-rows ∷ [], (s-updates ∷ [], (s-values ∷ [], tt)))))))))))))))))))), tt))
     asked3 u1 r1 is1 d1 u2 r2 is2 d2 ν3-8 δ3-8 ν3-9 δ3-9 ν3-10 δ3-10 ν3-11 δ3-11 ν3-12 δ3-12 ν3-13 δ3-13 ν3-14 δ3-14 ν3-15 δ3-15 ν3-16 δ3-16 ν3-17 δ3-17 ν3-18 δ3-18 =
-        qed W ((‵ (flft (κ-input-starts) q-input-starts) ⊛ ‵ (flft (κ-input-rows) q-input-rows) ⊛ ‵ (flft (κ-input-values) q-input-values) ⊛ ‵ (flft (κ-list) q-list) ⊛ ‵ (flft (ν3-8 ∷ []) fullShare) ⊛ ‵ (flft (ν3-9 ∷ []) fullShare) ⊛ ‵ (flft (ν3-10 ∷ []) fullShare) ⊛ ‵ (flft (ν3-11 ∷ []) fullShare) ⊛ ‵ (flft (ν3-12 ∷ []) fullShare) ⊛ ‵ (flft (ν3-13 ∷ []) fullShare) ⊛ ‵ (flft (ν3-14 ∷ []) fullShare) ⊛ ‵ (flft (ν3-15 ∷ []) fullShare) ⊛ ‵ (flft (ν3-16 ∷ []) fullShare) ⊛ ‵ (flft (ν3-17 ∷ []) fullShare) ⊛ ‵ (flft (ν3-18 ∷ []) fullShare) ⊛ ‵ ftrue) ∷ ‵ (owns (usize ∷ ShrSlice (named 0) (κ-input-starts) usize ∷ ShrSlice (named 1) (κ-input-rows) usize ∷ ShrSlice (named 2) (κ-input-values) f64 ∷ usize ∷ T-Order.the-row ∷ ShrSlice (named 3) (κ-list) usize ∷ T-Stop.the-row ∷ MutSlice (named 4) (ν3-8 ∷ []) usize ∷ MutSlice (named 5) (ν3-9 ∷ []) usize ∷ MutSlice (named 6) (ν3-10 ∷ []) usize ∷ MutSlice (named 7) (ν3-11 ∷ []) usize ∷ MutSlice (named 8) (ν3-12 ∷ []) usize ∷ MutSlice (named 9) (ν3-13 ∷ []) usize ∷ MutSlice (named 10) (ν3-14 ∷ []) usize ∷ MutSlice (named 11) (ν3-15 ∷ []) f64 ∷ MutSlice (named 12) (ν3-16 ∷ []) usize ∷ MutSlice (named 13) (ν3-17 ∷ []) T-Update.the-row ∷ MutSlice (named 14) (ν3-18 ∷ []) f64 ∷ []) (n, (ref-input-starts γ-input-starts input-starts, (ref-input-rows γ-input-rows input-rows, (ref-input-values γ-input-values input-values, (cap, (u1, (ref-list γ-list «list», (u2, (ref-permutation δ3-8 permutation, (ref-firsts δ3-9 firsts, (ref-starts δ3-10 starts, (ref-groups δ3-11 groups, (ref-tasks δ3-12 tasks, (ref-top δ3-13 top, (ref-words δ3-14 words, (ref-floats δ3-15 floats, (ref-rows δ3-16 rows, (ref-updates δ3-17 updates, (ref-values δ3-18 values, tt))))))))))))))))))) (vint w64 n ∷ [], (sliceVal (b-input-starts, o-input-starts) (length input-starts) ∷ [], (sliceVal (b-input-rows, o-input-rows) (length input-rows) ∷ [], (sliceVal (b-input-values, o-input-values) (length input-values) ∷ [], (vint w64 cap ∷ [], (r1 ∷ [], (sliceVal (b-list, o-list) (length «list») ∷ [], (r2 ∷ [], (sliceVal (b-permutation, o-permutation) (length permutation) ∷ [], (sliceVal (b-firsts, o-firsts) (length firsts) ∷ [], (sliceVal (b-starts, o-starts) (length starts) ∷ [], (sliceVal (b-groups, o-groups) (length groups) ∷ [], (sliceVal (b-tasks, o-tasks) (length tasks) ∷ [], (sliceVal (b-top, o-top) (length top) ∷ [], (sliceVal (b-words, o-words) (length words) ∷ [], (sliceVal (b-floats, o-floats) (length floats) ∷ [], (sliceVal (b-rows, o-rows) (length rows) ∷ [], (sliceVal (b-updates, o-updates) (length updates) ∷ [], (sliceVal (b-values, o-values) (length values) ∷ [], tt)))))))))))))))))))) ∷ []) ∵ w-join ! $ w-frame ! $ done !
+        qed W ((‵ (flft (κ-input-starts) q-input-starts) ⊛ ‵ (flft (κ-input-rows) q-input-rows) ⊛ ‵ (flft (κ-input-values) q-input-values) ⊛ ‵ (flft (κ-list) q-list) ⊛ ‵ (flft (ν3-8 ∷ []) fullShare) ⊛ ‵ (flft (ν3-9 ∷ []) fullShare) ⊛ ‵ (flft (ν3-10 ∷ []) fullShare) ⊛ ‵ (flft (ν3-11 ∷ []) fullShare) ⊛ ‵ (flft (ν3-12 ∷ []) fullShare) ⊛ ‵ (flft (ν3-13 ∷ []) fullShare) ⊛ ‵ (flft (ν3-14 ∷ []) fullShare) ⊛ ‵ (flft (ν3-15 ∷ []) fullShare) ⊛ ‵ (flft (ν3-16 ∷ []) fullShare) ⊛ ‵ (flft (ν3-17 ∷ []) fullShare) ⊛ ‵ (flft (ν3-18 ∷ []) fullShare) ⊛ ‵ ftrue) ∷ ‵ (owns (usize ∷ ShrSlice (named 0) (κ-input-starts) usize ∷ ShrSlice (named 1) (κ-input-rows) usize ∷ ShrSlice (named 2) (κ-input-values) f64 ∷ usize ∷ T-Order.the-row ∷ ShrSlice (named 3) (κ-list) usize ∷ T-Stop.the-row ∷ MutSlice (named 4) (ν3-8 ∷ []) usize ∷ MutSlice (named 5) (ν3-9 ∷ []) usize ∷ MutSlice (named 6) (ν3-10 ∷ []) usize ∷ MutSlice (named 7) (ν3-11 ∷ []) usize ∷ MutSlice (named 8) (ν3-12 ∷ []) usize ∷ MutSlice (named 9) (ν3-13 ∷ []) usize ∷ MutSlice (named 10) (ν3-14 ∷ []) usize ∷ MutSlice (named 11) (ν3-15 ∷ []) f64 ∷ MutSlice (named 12) (ν3-16 ∷ []) usize ∷ MutSlice (named 13) (ν3-17 ∷ []) T-Update.the-row ∷ MutSlice (named 14) (ν3-18 ∷ []) f64 ∷ []) (n, (ref-input-starts γ-input-starts input-starts, (ref-input-rows γ-input-rows input-rows, (ref-input-values γ-input-values input-values, (cap, (u1, (ref-list γ-list «list», (u2, (ref-permutation δ3-8 permutation, (ref-firsts δ3-9 firsts, (ref-starts δ3-10 starts, (ref-groups δ3-11 groups, (ref-tasks δ3-12 tasks, (ref-top δ3-13 top, (ref-words δ3-14 words, (ref-floats δ3-15 floats, (ref-rows δ3-16 rows, (ref-updates δ3-17 updates, (ref-values δ3-18 values, tt))))))))))))))))))) (vint w64 n ∷ [], (s-input-starts ∷ [], (s-input-rows ∷ [], (s-input-values ∷ [], (vint w64 cap ∷ [], (r1 ∷ [], (s-list ∷ [], (r2 ∷ [], (s-permutation ∷ [], (s-firsts ∷ [], (s-starts ∷ [], (s-groups ∷ [], (s-tasks ∷ [], (s-top ∷ [], (s-words ∷ [], (s-floats ∷ [], (s-rows ∷ [], (s-updates ∷ [], (s-values ∷ [], tt)))))))))))))))))))) ∷ []) ∵ w-join ! $ w-frame ! $ done !
 
     asked4 : (u1 : Order) (r1 : Val) (is1 : Is T-Order.the-row u1 (r1 ∷ [])) (d1 : u1 ≡ orderSaid order) (u2 : Stop) (r2 : Val) (is2 : Is T-Stop.the-row u2 (r2 ∷ [])) (d2 : u2 ≡ stopSaid stop) (u3 : Outcome) (r3 : Val) (is3 : Is T-Outcome.the-row u3 (r3 ∷ [])) (c3-permutation : List ℕ) (c3-firsts : List ℕ) (c3-starts : List ℕ) (c3-groups : List ℕ) (c3-tasks : List ℕ) (c3-top : List ℕ) (c3-words : List ℕ) (c3-floats : List Float) (c3-rows : List ℕ) (c3-updates : List Update) (c3-values : List Float) (d3 : FactorSettles (factor (matrix n (input-starts) (input-rows) (input-values)) cap u1 («list») u2 (lentAll (length (permutation)) (length (firsts)) (length (starts)) (length (groups)) (length (tasks)) (length (top)) (length (words)) (length (floats)) (length (rows)) (length (updates)) (length (values)))) u3 (c3-permutation) (c3-firsts) (c3-starts) (c3-groups) (c3-tasks) (c3-top) (c3-words) (c3-floats) (c3-rows) (c3-updates) (c3-values)) (same3-permutation : length c3-permutation ≡ length permutation) (same3-firsts : length c3-firsts ≡ length firsts) (same3-starts : length c3-starts ≡ length starts) (same3-groups : length c3-groups ≡ length groups) (same3-tasks : length c3-tasks ≡ length tasks) (same3-top : length c3-top ≡ length top) (same3-words : length c3-words ≡ length words) (same3-floats : length c3-floats ≡ length floats) (same3-rows : length c3-rows ≡ length rows) (same3-updates : length c3-updates ≡ length updates) (same3-values : length c3-values ≡ length values) (ν4-1 : ℕ) (δ4-1 : GName) → ent 𝓤 (onEntry 𝓤 H A f-cross.signature (ν4-1 ∷ [], tt) (fullShare, tt) (u3, (ref-results δ4-1 results, tt)) (r3 ∷ [], (s-results ∷ [], tt))) (C-cross 𝓤 H A mem run .pre (((ν4-1 ∷ [], tt), (fullShare, tt), tt, (u3, (ref-results δ4-1 results, tt)), (r3 ∷ [], (s-results ∷ [], tt))), tt))
     asked4 u1 r1 is1 d1 u2 r2 is2 d2 u3 r3 is3 c3-permutation c3-firsts c3-starts c3-groups c3-tasks c3-top c3-words c3-floats c3-rows c3-updates c3-values d3 same3-permutation same3-firsts same3-starts same3-groups same3-tasks same3-top same3-words same3-floats same3-rows same3-updates same3-values ν4-1 δ4-1 =
@@ -417,11 +418,12 @@ module _ {M : Type 1} (𝓤 : URA M) (H : Heap 𝓤) (A : Atoms 𝓤) (W : Given
           w-calls-at ! fm (C-cross 𝓤 H A mem run) known-cross (((ν4-1 ∷ [], tt), (fullShare, tt), tt, (u3, (ref-results δ4-1 results, tt)), (r3 ∷ [], (s-results ∷ [], tt))), tt) (w-and-then ! (w-load ! (w-from ! (w-stop !)) (w-look ! 9 refl)) (w-and-then ! (w-load ! (w-from ! (w-stop !)) (w-look ! 3 refl)) (w-no-more !))) (λ r4.
           use1 W (later (some (λ (u′ : ℕ). ((‵ (flft (ν4-1 ∷ []) fullShare) ⊛ ‵ ftrue) ⊛ ‵ (usize .own u′ (r4 ∷ []))) ⊛ raw (ensured 𝓤 H A f-cross.ended (f-cross.clauses 𝓤 H A mem run) (ν4-1 ∷ [], tt) (u3, (ref-results δ4-1 results, tt)) tt u′)))) (id⊢ 𝓤 _) $ w-await ! tt $ w-pick ! (λ u4.
           w-split ! $ w-move ! (1 ∷ []) $ use1 W (some (λ (zs4 : Unit {0} × (List ℕ × Unit {0})). ‵ (lasts f-cross.ended (ν4-1 ∷ [], tt) (u3, (ref-results δ4-1 results, tt)) zs4) ⊛ raw (fact 𝓤 (((zs4 .1 .0) ≡ outcomeWords u3) × (u4 ≡ number (u3 .answer)))))) (id⊢ 𝓤 _) $ w-pick ! (λ zs4. w-split ! $ w-move ! (1 ∷ []) $ w-heard ! (((zs4 .1 .0) ≡ outcomeWords u3) × (u4 ≡ number (u3 .answer))) (λ d4.
-          w-fsplit ! $ w-drop ! $ w-fsplit ! $ w-move ! (1 ∷ []) $ w-drop ! $
+          w-past ! $ w-fsplit ! $ w-move ! (1 ∷ []) $ w-drop ! $
           w-move ! (1 ∷ []) $ w-split ! $ w-move ! (1 ∷ []) $ w-peeks ! usize (Is usize) (shows 𝓤 H A usize) u4 (r4 ∷ []) (λ is4. w-land ! (w-from ! (w-stop !)) (w-init ! 8 refl (uint-lawful 𝓤 H A W w64 .typed u4 _ is4 .0)) $
           w-drop ! $ w-split ! $ w-lft-end ! tt $ w-move ! (0 ∷ 3 ∷ 2 ∷ []) $ use3 W (later (‵ (MutRef (named 15) κ-results (Array usize 12) .own (ref-results γ-results (zs4 .1 .0)) (s-results ∷ [])) ⊛ ‵ (flft κ-results q-results))) (ref-comes-back 𝓤 H A W (Array usize 12) (named 15) κ-results (ν4-1 ∷ []) q-results γ-results b-results o-results δ4-1 results (zs4 .1 .0)) $ w-await ! tt $ w-split ! $
           w-move ! (2 ∷ []) $ w-drop ! $
           w-forget ! 3 refl $ w-move ! (3 ∷ []) $ w-pack ! (‵ (froom ty46 l46 0) ∷ []) $
+          w-written ! (raw (Packed 𝓤 H A spare4) ∷ ‵ (MutRef (named 15) κ-results (Array usize 12) .own (ref-results γ-results (zs4 .1 .0)) (s-results ∷ [])) ∷ ‵ (flft κ-results q-results) ∷ raw (Packed 𝓤 H A (‵ (ShrSlice (named 0) κ-input-starts usize .own (ref-input-starts γ-input-starts input-starts) (sliceVal (b-input-starts, o-input-starts) (length input-starts) ∷ [])) ∷ ‵ (ShrSlice (named 1) κ-input-rows usize .own (ref-input-rows γ-input-rows input-rows) (sliceVal (b-input-rows, o-input-rows) (length input-rows) ∷ [])) ∷ ‵ (ShrSlice (named 2) κ-input-values f64 .own (ref-input-values γ-input-values input-values) (sliceVal (b-input-values, o-input-values) (length input-values) ∷ [])) ∷ ‵ (ShrSlice (named 3) κ-list usize .own (ref-list γ-list «list») (sliceVal (b-list, o-list) (length «list») ∷ [])) ∷ ‵ (MutSlice (named 4) κ-permutation usize .own (ref-permutation γ-permutation c3-permutation) (sliceVal (b-permutation, o-permutation) (length permutation) ∷ [])) ∷ ‵ (MutSlice (named 5) κ-firsts usize .own (ref-firsts γ-firsts c3-firsts) (sliceVal (b-firsts, o-firsts) (length firsts) ∷ [])) ∷ ‵ (MutSlice (named 6) κ-starts usize .own (ref-starts γ-starts c3-starts) (sliceVal (b-starts, o-starts) (length starts) ∷ [])) ∷ ‵ (MutSlice (named 8) κ-tasks usize .own (ref-tasks γ-tasks c3-tasks) (sliceVal (b-tasks, o-tasks) (length tasks) ∷ [])) ∷ ‵ (MutSlice (named 9) κ-top usize .own (ref-top γ-top c3-top) (sliceVal (b-top, o-top) (length top) ∷ [])) ∷ ‵ (MutSlice (named 10) κ-words usize .own (ref-words γ-words c3-words) (sliceVal (b-words, o-words) (length words) ∷ [])) ∷ ‵ (MutSlice (named 11) κ-floats f64 .own (ref-floats γ-floats c3-floats) (sliceVal (b-floats, o-floats) (length floats) ∷ [])) ∷ ‵ (MutSlice (named 12) κ-rows usize .own (ref-rows γ-rows c3-rows) (sliceVal (b-rows, o-rows) (length rows) ∷ [])) ∷ ‵ (MutSlice (named 13) κ-updates T-Update.the-row .own (ref-updates γ-updates c3-updates) (sliceVal (b-updates, o-updates) (length updates) ∷ [])) ∷ ‵ (MutSlice (named 14) κ-values f64 .own (ref-values γ-values c3-values) (sliceVal (b-values, o-values) (length values) ∷ [])) ∷ ‵ (flft κ-input-starts q-input-starts) ∷ ‵ (flft κ-input-rows q-input-rows) ∷ ‵ (flft κ-input-values q-input-values) ∷ ‵ (flft κ-list q-list) ∷ ‵ (flft κ-permutation q-permutation) ∷ ‵ (flft κ-firsts q-firsts) ∷ ‵ (flft κ-starts q-starts) ∷ ‵ (flft κ-tasks q-tasks) ∷ ‵ (flft κ-top q-top) ∷ ‵ (flft κ-words q-words) ∷ ‵ (flft κ-floats q-floats) ∷ ‵ (flft κ-rows q-rows) ∷ ‵ (flft κ-updates q-updates) ∷ ‵ (flft κ-values q-values) ∷ ‵ (fat fullShare ty1 l1 0 (vint w64 n)) ∷ ‵ (fat fullShare ty2 l2 0 s-input-starts) ∷ ‵ (fat fullShare ty3 l3 0 s-input-rows) ∷ ‵ (fat fullShare ty4 l4 0 s-input-values) ∷ ‵ (fat fullShare ty5 l5 0 (vint w64 cap)) ∷ ‵ (fat fullShare ty6 l6 0 (vint w64 order)) ∷ ‵ (fat fullShare ty7 l7 0 s-list) ∷ ‵ (fat fullShare ty8 l8 0 (vint w64 stop)) ∷ ‵ (fat fullShare ty9 l9 0 s-permutation) ∷ ‵ (fat fullShare ty10 l10 0 s-firsts) ∷ ‵ (fat fullShare ty11 l11 0 s-starts) ∷ ‵ (fat fullShare ty13 l13 0 s-tasks) ∷ ‵ (fat fullShare ty14 l14 0 s-top) ∷ ‵ (fat fullShare ty15 l15 0 s-words) ∷ ‵ (fat fullShare ty16 l16 0 s-floats) ∷ ‵ (fat fullShare ty17 l17 0 s-rows) ∷ ‵ (fat fullShare ty18 l18 0 s-updates) ∷ ‵ (fat fullShare ty19 l19 0 s-values) ∷ ‵ (fat fullShare ty21 l21 0 r1) ∷ ‵ (fat fullShare ty22 l22 0 r2) ∷ raw (Packed 𝓤 H A spare3) ∷ raw (Packed 𝓤 H A dying) ∷ [])) ∷ ‵ (MutSlice (named 7) κ-groups usize .own (ref-groups γ-groups c3-groups) (sliceVal (b-groups, o-groups) (length groups) ∷ [])) ∷ ‵ (flft κ-groups q-groups) ∷ ‵ (fat fullShare ty0 l0 0 r4) ∷ ‵ (fat fullShare ty12 l12 0 s-groups) ∷ ‵ (fat fullShare ty20 l20 0 s-results) ∷ ‵ (fat fullShare ty23 l23 0 r3) ∷ []) $
           w-move ! (3 ∷ []) $ w-unpack ! (‵ (ShrSlice (named 0) κ-input-starts usize .own (ref-input-starts γ-input-starts input-starts) (sliceVal (b-input-starts, o-input-starts) (length input-starts) ∷ [])) ∷ ‵ (ShrSlice (named 1) κ-input-rows usize .own (ref-input-rows γ-input-rows input-rows) (sliceVal (b-input-rows, o-input-rows) (length input-rows) ∷ [])) ∷ ‵ (ShrSlice (named 2) κ-input-values f64 .own (ref-input-values γ-input-values input-values) (sliceVal (b-input-values, o-input-values) (length input-values) ∷ [])) ∷ ‵ (ShrSlice (named 3) κ-list usize .own (ref-list γ-list «list») (sliceVal (b-list, o-list) (length «list») ∷ [])) ∷ ‵ (MutSlice (named 4) κ-permutation usize .own (ref-permutation γ-permutation c3-permutation) (sliceVal (b-permutation, o-permutation) (length permutation) ∷ [])) ∷ ‵ (MutSlice (named 5) κ-firsts usize .own (ref-firsts γ-firsts c3-firsts) (sliceVal (b-firsts, o-firsts) (length firsts) ∷ [])) ∷ ‵ (MutSlice (named 6) κ-starts usize .own (ref-starts γ-starts c3-starts) (sliceVal (b-starts, o-starts) (length starts) ∷ [])) ∷ ‵ (MutSlice (named 8) κ-tasks usize .own (ref-tasks γ-tasks c3-tasks) (sliceVal (b-tasks, o-tasks) (length tasks) ∷ [])) ∷ ‵ (MutSlice (named 9) κ-top usize .own (ref-top γ-top c3-top) (sliceVal (b-top, o-top) (length top) ∷ [])) ∷ ‵ (MutSlice (named 10) κ-words usize .own (ref-words γ-words c3-words) (sliceVal (b-words, o-words) (length words) ∷ [])) ∷ ‵ (MutSlice (named 11) κ-floats f64 .own (ref-floats γ-floats c3-floats) (sliceVal (b-floats, o-floats) (length floats) ∷ [])) ∷ ‵ (MutSlice (named 12) κ-rows usize .own (ref-rows γ-rows c3-rows) (sliceVal (b-rows, o-rows) (length rows) ∷ [])) ∷ ‵ (MutSlice (named 13) κ-updates T-Update.the-row .own (ref-updates γ-updates c3-updates) (sliceVal (b-updates, o-updates) (length updates) ∷ [])) ∷ ‵ (MutSlice (named 14) κ-values f64 .own (ref-values γ-values c3-values) (sliceVal (b-values, o-values) (length values) ∷ [])) ∷ ‵ (flft κ-input-starts q-input-starts) ∷ ‵ (flft κ-input-rows q-input-rows) ∷ ‵ (flft κ-input-values q-input-values) ∷ ‵ (flft κ-list q-list) ∷ ‵ (flft κ-permutation q-permutation) ∷ ‵ (flft κ-firsts q-firsts) ∷ ‵ (flft κ-starts q-starts) ∷ ‵ (flft κ-tasks q-tasks) ∷ ‵ (flft κ-top q-top) ∷ ‵ (flft κ-words q-words) ∷ ‵ (flft κ-floats q-floats) ∷ ‵ (flft κ-rows q-rows) ∷ ‵ (flft κ-updates q-updates) ∷ ‵ (flft κ-values q-values) ∷ ‵ (fat fullShare ty1 l1 0 (vint w64 n)) ∷ ‵ (fat fullShare ty2 l2 0 s-input-starts) ∷ ‵ (fat fullShare ty3 l3 0 s-input-rows) ∷ ‵ (fat fullShare ty4 l4 0 s-input-values) ∷ ‵ (fat fullShare ty5 l5 0 (vint w64 cap)) ∷ ‵ (fat fullShare ty6 l6 0 (vint w64 order)) ∷ ‵ (fat fullShare ty7 l7 0 s-list) ∷ ‵ (fat fullShare ty8 l8 0 (vint w64 stop)) ∷ ‵ (fat fullShare ty9 l9 0 s-permutation) ∷ ‵ (fat fullShare ty10 l10 0 s-firsts) ∷ ‵ (fat fullShare ty11 l11 0 s-starts) ∷ ‵ (fat fullShare ty13 l13 0 s-tasks) ∷ ‵ (fat fullShare ty14 l14 0 s-top) ∷ ‵ (fat fullShare ty15 l15 0 s-words) ∷ ‵ (fat fullShare ty16 l16 0 s-floats) ∷ ‵ (fat fullShare ty17 l17 0 s-rows) ∷ ‵ (fat fullShare ty18 l18 0 s-updates) ∷ ‵ (fat fullShare ty19 l19 0 s-values) ∷ ‵ (fat fullShare ty21 l21 0 r1) ∷ ‵ (fat fullShare ty22 l22 0 r2) ∷ raw (Packed 𝓤 H A spare3) ∷ raw (Packed 𝓤 H A dying) ∷ []) $
           w-keep ! (0 ∷ 1 ∷ 2 ∷ 3 ∷ 4 ∷ 5 ∷ 6 ∷ 53 ∷ 7 ∷ 8 ∷ 9 ∷ 10 ∷ 11 ∷ 12 ∷ 13 ∷ 51 ∷ 14 ∷ 15 ∷ 16 ∷ 17 ∷ 18 ∷ 19 ∷ 20 ∷ 54 ∷ 21 ∷ 22 ∷ 23 ∷ 24 ∷ 25 ∷ 26 ∷ 27 ∷ 52 ∷ 55 ∷ 28 ∷ 29 ∷ 30 ∷ 31 ∷ 32 ∷ 33 ∷ 34 ∷ 35 ∷ 36 ∷ 37 ∷ 38 ∷ 56 ∷ 39 ∷ 40 ∷ 41 ∷ 42 ∷ 43 ∷ 44 ∷ 45 ∷ 57 ∷ 46 ∷ 47 ∷ 58 ∷ 48 ∷ 50 ∷ 49 ∷ []) $ after4 u1 r1 is1 d1 u2 r2 is2 d2 u3 r3 is3 c3-permutation c3-firsts c3-starts c3-groups c3-tasks c3-top c3-words c3-floats c3-rows c3-updates c3-values d3 same3-permutation same3-firsts same3-starts same3-groups same3-tasks same3-top same3-words same3-floats same3-rows same3-updates same3-values u4 r4 is4 (zs4 .1 .0) d4)))))))
 
@@ -444,40 +446,49 @@ module _ {M : Type 1} (𝓤 : URA M) (H : Heap 𝓤) (A : Atoms 𝓤) (W : Given
           w-move ! (25 ∷ []) $ use1 W (‵ (ShrSlice (named 1) κ-input-rows usize .own (ref-input-rows γ-input-rows input-rows) (sliceVal (b-input-rows, o-input-rows) (length input-rows) ∷ [])) ⊛ ‵ (ShrSlice (named 1) κ-input-rows usize .own (ref-input-rows γ-input-rows input-rows) (sliceVal (b-input-rows, o-input-rows) (length input-rows) ∷ []))) (shr-slice-copy 𝓤 H A W (named 1) κ-input-rows usize .twice (ref-input-rows γ-input-rows input-rows) (s-input-rows ∷ [])) $ w-split ! $
           w-move ! (27 ∷ []) $ use1 W (‵ (ShrSlice (named 2) κ-input-values f64 .own (ref-input-values γ-input-values input-values) (sliceVal (b-input-values, o-input-values) (length input-values) ∷ [])) ⊛ ‵ (ShrSlice (named 2) κ-input-values f64 .own (ref-input-values γ-input-values input-values) (sliceVal (b-input-values, o-input-values) (length input-values) ∷ []))) (shr-slice-copy 𝓤 H A W (named 2) κ-input-values f64 .twice (ref-input-values γ-input-values input-values) (s-input-values ∷ [])) $ w-split ! $
           w-move ! (29 ∷ []) $ use1 W (‵ (ShrSlice (named 3) κ-list usize .own (ref-list γ-list «list») (sliceVal (b-list, o-list) (length «list») ∷ [])) ⊛ ‵ (ShrSlice (named 3) κ-list usize .own (ref-list γ-list «list») (sliceVal (b-list, o-list) (length «list») ∷ []))) (shr-slice-copy 𝓤 H A W (named 3) κ-list usize .twice (ref-list γ-list «list») (s-list ∷ [])) $ w-split ! $
-          w-lft-new ! tt (λ ν3-8. w-move ! (32 ∷ 47 ∷ []) $ use2 W (later (some (λ (δ : GName). ‵ (MutSlice (named 4) (ν3-8 ∷ []) usize .own (ref-permutation δ permutation) (sliceVal (b-permutation, o-permutation) (length permutation) ∷ [])) ⊛ ‵ (LentAgain usize κ-permutation (ν3-8 ∷ []) q-permutation γ-permutation b-permutation o-permutation δ permutation)))) (lends-again usize κ-permutation (ν3-8 ∷ []) q-permutation γ-permutation b-permutation o-permutation 𝓤 H A W (named 4) (named 4) permutation) $ w-await ! tt $ w-pick ! (λ δ3-8. w-split ! $
-          w-lft-new ! tt (λ ν3-9. w-move ! (35 ∷ 49 ∷ []) $ use2 W (later (some (λ (δ : GName). ‵ (MutSlice (named 5) (ν3-9 ∷ []) usize .own (ref-firsts δ firsts) (sliceVal (b-firsts, o-firsts) (length firsts) ∷ [])) ⊛ ‵ (LentAgain usize κ-firsts (ν3-9 ∷ []) q-firsts γ-firsts b-firsts o-firsts δ firsts)))) (lends-again usize κ-firsts (ν3-9 ∷ []) q-firsts γ-firsts b-firsts o-firsts 𝓤 H A W (named 5) (named 5) firsts) $ w-await ! tt $ w-pick ! (λ δ3-9. w-split ! $
-          w-lft-new ! tt (λ ν3-10. w-move ! (38 ∷ 51 ∷ []) $ use2 W (later (some (λ (δ : GName). ‵ (MutSlice (named 6) (ν3-10 ∷ []) usize .own (ref-starts δ starts) (sliceVal (b-starts, o-starts) (length starts) ∷ [])) ⊛ ‵ (LentAgain usize κ-starts (ν3-10 ∷ []) q-starts γ-starts b-starts o-starts δ starts)))) (lends-again usize κ-starts (ν3-10 ∷ []) q-starts γ-starts b-starts o-starts 𝓤 H A W (named 6) (named 6) starts) $ w-await ! tt $ w-pick ! (λ δ3-10. w-split ! $
-          w-lft-new ! tt (λ ν3-11. w-move ! (41 ∷ 53 ∷ []) $ use2 W (later (some (λ (δ : GName). ‵ (MutSlice (named 7) (ν3-11 ∷ []) usize .own (ref-groups δ groups) (sliceVal (b-groups, o-groups) (length groups) ∷ [])) ⊛ ‵ (LentAgain usize κ-groups (ν3-11 ∷ []) q-groups γ-groups b-groups o-groups δ groups)))) (lends-again usize κ-groups (ν3-11 ∷ []) q-groups γ-groups b-groups o-groups 𝓤 H A W (named 7) (named 7) groups) $ w-await ! tt $ w-pick ! (λ δ3-11. w-split ! $
-          w-lft-new ! tt (λ ν3-12. w-move ! (44 ∷ 55 ∷ []) $ use2 W (later (some (λ (δ : GName). ‵ (MutSlice (named 8) (ν3-12 ∷ []) usize .own (ref-tasks δ tasks) (sliceVal (b-tasks, o-tasks) (length tasks) ∷ [])) ⊛ ‵ (LentAgain usize κ-tasks (ν3-12 ∷ []) q-tasks γ-tasks b-tasks o-tasks δ tasks)))) (lends-again usize κ-tasks (ν3-12 ∷ []) q-tasks γ-tasks b-tasks o-tasks 𝓤 H A W (named 8) (named 8) tasks) $ w-await ! tt $ w-pick ! (λ δ3-12. w-split ! $
-          w-lft-new ! tt (λ ν3-13. w-move ! (47 ∷ 57 ∷ []) $ use2 W (later (some (λ (δ : GName). ‵ (MutSlice (named 9) (ν3-13 ∷ []) usize .own (ref-top δ top) (sliceVal (b-top, o-top) (length top) ∷ [])) ⊛ ‵ (LentAgain usize κ-top (ν3-13 ∷ []) q-top γ-top b-top o-top δ top)))) (lends-again usize κ-top (ν3-13 ∷ []) q-top γ-top b-top o-top 𝓤 H A W (named 9) (named 9) top) $ w-await ! tt $ w-pick ! (λ δ3-13. w-split ! $
-          w-lft-new ! tt (λ ν3-14. w-move ! (50 ∷ 59 ∷ []) $ use2 W (later (some (λ (δ : GName). ‵ (MutSlice (named 10) (ν3-14 ∷ []) usize .own (ref-words δ words) (sliceVal (b-words, o-words) (length words) ∷ [])) ⊛ ‵ (LentAgain usize κ-words (ν3-14 ∷ []) q-words γ-words b-words o-words δ words)))) (lends-again usize κ-words (ν3-14 ∷ []) q-words γ-words b-words o-words 𝓤 H A W (named 10) (named 10) words) $ w-await ! tt $ w-pick ! (λ δ3-14. w-split ! $
-          w-lft-new ! tt (λ ν3-15. w-move ! (53 ∷ 61 ∷ []) $ use2 W (later (some (λ (δ : GName). ‵ (MutSlice (named 11) (ν3-15 ∷ []) f64 .own (ref-floats δ floats) (sliceVal (b-floats, o-floats) (length floats) ∷ [])) ⊛ ‵ (LentAgain f64 κ-floats (ν3-15 ∷ []) q-floats γ-floats b-floats o-floats δ floats)))) (lends-again f64 κ-floats (ν3-15 ∷ []) q-floats γ-floats b-floats o-floats 𝓤 H A W (named 11) (named 11) floats) $ w-await ! tt $ w-pick ! (λ δ3-15. w-split ! $
-          w-lft-new ! tt (λ ν3-16. w-move ! (56 ∷ 63 ∷ []) $ use2 W (later (some (λ (δ : GName). ‵ (MutSlice (named 12) (ν3-16 ∷ []) usize .own (ref-rows δ rows) (sliceVal (b-rows, o-rows) (length rows) ∷ [])) ⊛ ‵ (LentAgain usize κ-rows (ν3-16 ∷ []) q-rows γ-rows b-rows o-rows δ rows)))) (lends-again usize κ-rows (ν3-16 ∷ []) q-rows γ-rows b-rows o-rows 𝓤 H A W (named 12) (named 12) rows) $ w-await ! tt $ w-pick ! (λ δ3-16. w-split ! $
-          w-lft-new ! tt (λ ν3-17. w-move ! (59 ∷ 65 ∷ []) $ use2 W (later (some (λ (δ : GName). ‵ (MutSlice (named 13) (ν3-17 ∷ []) T-Update.the-row .own (ref-updates δ updates) (sliceVal (b-updates, o-updates) (length updates) ∷ [])) ⊛ ‵ (LentAgain T-Update.the-row κ-updates (ν3-17 ∷ []) q-updates γ-updates b-updates o-updates δ updates)))) (lends-again T-Update.the-row κ-updates (ν3-17 ∷ []) q-updates γ-updates b-updates o-updates 𝓤 H A W (named 13) (named 13) updates) $ w-await ! tt $ w-pick ! (λ δ3-17. w-split ! $
-          w-lft-new ! tt (λ ν3-18. w-move ! (62 ∷ 67 ∷ []) $ use2 W (later (some (λ (δ : GName). ‵ (MutSlice (named 14) (ν3-18 ∷ []) f64 .own (ref-values δ values) (sliceVal (b-values, o-values) (length values) ∷ [])) ⊛ ‵ (LentAgain f64 κ-values (ν3-18 ∷ []) q-values γ-values b-values o-values δ values)))) (lends-again f64 κ-values (ν3-18 ∷ []) q-values γ-values b-values o-values 𝓤 H A W (named 14) (named 14) values) $ w-await ! tt $ w-pick ! (λ δ3-18. w-split ! $
+          w-move ! (31 ∷ 46 ∷ []) $ w-lend ! tt usize κ-permutation q-permutation γ-permutation b-permutation o-permutation (named 4) (named 4) permutation (length permutation) refl (λ ν3-8 δ3-8.
+          w-move ! (34 ∷ 48 ∷ []) $ w-lend ! tt usize κ-firsts q-firsts γ-firsts b-firsts o-firsts (named 5) (named 5) firsts (length firsts) refl (λ ν3-9 δ3-9.
+          w-written ! (‵ (MutSlice (named 5) (ν3-9 ∷ []) usize .own (ref-firsts δ3-9 firsts) (s-firsts ∷ [])) ∷ ‵ (LentAgain usize κ-firsts (ν3-9 ∷ []) q-firsts γ-firsts b-firsts o-firsts δ3-9 firsts) ∷ ‵ (flft (ν3-9 ∷ []) fullShare) ∷ ‵ (MutSlice (named 4) (ν3-8 ∷ []) usize .own (ref-permutation δ3-8 permutation) (s-permutation ∷ [])) ∷ ‵ (LentAgain usize κ-permutation (ν3-8 ∷ []) q-permutation γ-permutation b-permutation o-permutation δ3-8 permutation) ∷ ‵ (flft (ν3-8 ∷ []) fullShare) ∷ ‵ (ShrSlice (named 3) κ-list usize .own (ref-list γ-list «list») (sliceVal (b-list, o-list) (length «list») ∷ [])) ∷ ‵ (ShrSlice (named 3) κ-list usize .own (ref-list γ-list «list») (sliceVal (b-list, o-list) (length «list») ∷ [])) ∷ ‵ (ShrSlice (named 2) κ-input-values f64 .own (ref-input-values γ-input-values input-values) (sliceVal (b-input-values, o-input-values) (length input-values) ∷ [])) ∷ ‵ (ShrSlice (named 2) κ-input-values f64 .own (ref-input-values γ-input-values input-values) (sliceVal (b-input-values, o-input-values) (length input-values) ∷ [])) ∷ ‵ (ShrSlice (named 1) κ-input-rows usize .own (ref-input-rows γ-input-rows input-rows) (sliceVal (b-input-rows, o-input-rows) (length input-rows) ∷ [])) ∷ ‵ (ShrSlice (named 1) κ-input-rows usize .own (ref-input-rows γ-input-rows input-rows) (sliceVal (b-input-rows, o-input-rows) (length input-rows) ∷ [])) ∷ ‵ (ShrSlice (named 0) κ-input-starts usize .own (ref-input-starts γ-input-starts input-starts) (sliceVal (b-input-starts, o-input-starts) (length input-starts) ∷ [])) ∷ ‵ (ShrSlice (named 0) κ-input-starts usize .own (ref-input-starts γ-input-starts input-starts) (sliceVal (b-input-starts, o-input-starts) (length input-starts) ∷ [])) ∷ raw (Packed 𝓤 H A (‵ (MutRef (named 15) κ-results (Array usize 12) .own (ref-results γ-results results) (s-results ∷ [])) ∷ ‵ (flft κ-results q-results) ∷ ‵ (fat fullShare ty6 l6 0 (vint w64 order)) ∷ ‵ (fat fullShare ty8 l8 0 (vint w64 stop)) ∷ ‵ (fat fullShare ty20 l20 0 s-results) ∷ raw (Packed 𝓤 H A spare4) ∷ raw (Packed 𝓤 H A dying) ∷ [])) ∷ ‵ (fat fullShare ty24 l24 0 (vptr b-permutation o-permutation)) ∷ ‵ (fat fullShare ty25 l25 0 s-permutation) ∷ ‵ (fat fullShare ty26 l26 0 (vptr b-firsts o-firsts)) ∷ ‵ (fat fullShare ty27 l27 0 s-firsts) ∷ ‵ (fat fullShare ty28 l28 0 (vptr b-starts o-starts)) ∷ ‵ (fat fullShare ty29 l29 0 s-starts) ∷ ‵ (fat fullShare ty30 l30 0 (vptr b-groups o-groups)) ∷ ‵ (fat fullShare ty31 l31 0 s-groups) ∷ ‵ (fat fullShare ty32 l32 0 (vptr b-tasks o-tasks)) ∷ ‵ (fat fullShare ty33 l33 0 s-tasks) ∷ ‵ (fat fullShare ty34 l34 0 (vptr b-top o-top)) ∷ ‵ (fat fullShare ty35 l35 0 s-top) ∷ ‵ (fat fullShare ty36 l36 0 (vptr b-words o-words)) ∷ ‵ (fat fullShare ty37 l37 0 s-words) ∷ ‵ (fat fullShare ty38 l38 0 (vptr b-floats o-floats)) ∷ ‵ (fat fullShare ty39 l39 0 s-floats) ∷ ‵ (fat fullShare ty40 l40 0 (vptr b-rows o-rows)) ∷ ‵ (fat fullShare ty41 l41 0 s-rows) ∷ ‵ (fat fullShare ty42 l42 0 (vptr b-updates o-updates)) ∷ ‵ (fat fullShare ty43 l43 0 s-updates) ∷ ‵ (fat fullShare ty44 l44 0 (vptr b-values o-values)) ∷ ‵ (fat fullShare ty45 l45 0 s-values) ∷ ‵ (MutSlice (named 6) κ-starts usize .own (ref-starts γ-starts starts) (sliceVal (b-starts, o-starts) (length starts) ∷ [])) ∷ ‵ (MutSlice (named 7) κ-groups usize .own (ref-groups γ-groups groups) (sliceVal (b-groups, o-groups) (length groups) ∷ [])) ∷ ‵ (MutSlice (named 8) κ-tasks usize .own (ref-tasks γ-tasks tasks) (sliceVal (b-tasks, o-tasks) (length tasks) ∷ [])) ∷ ‵ (MutSlice (named 9) κ-top usize .own (ref-top γ-top top) (sliceVal (b-top, o-top) (length top) ∷ [])) ∷ ‵ (MutSlice (named 10) κ-words usize .own (ref-words γ-words words) (sliceVal (b-words, o-words) (length words) ∷ [])) ∷ ‵ (MutSlice (named 11) κ-floats f64 .own (ref-floats γ-floats floats) (sliceVal (b-floats, o-floats) (length floats) ∷ [])) ∷ ‵ (MutSlice (named 12) κ-rows usize .own (ref-rows γ-rows rows) (sliceVal (b-rows, o-rows) (length rows) ∷ [])) ∷ ‵ (MutSlice (named 13) κ-updates T-Update.the-row .own (ref-updates γ-updates updates) (sliceVal (b-updates, o-updates) (length updates) ∷ [])) ∷ ‵ (MutSlice (named 14) κ-values f64 .own (ref-values γ-values values) (sliceVal (b-values, o-values) (length values) ∷ [])) ∷ ‵ (flft κ-input-starts q-input-starts) ∷ ‵ (flft κ-input-rows q-input-rows) ∷ ‵ (flft κ-input-values q-input-values) ∷ ‵ (flft κ-list q-list) ∷ ‵ (flft κ-starts q-starts) ∷ ‵ (flft κ-groups q-groups) ∷ ‵ (flft κ-tasks q-tasks) ∷ ‵ (flft κ-top q-top) ∷ ‵ (flft κ-words q-words) ∷ ‵ (flft κ-floats q-floats) ∷ ‵ (flft κ-rows q-rows) ∷ ‵ (flft κ-updates q-updates) ∷ ‵ (flft κ-values q-values) ∷ ‵ (froom ty0 l0 0) ∷ ‵ (fat fullShare ty1 l1 0 (vint w64 n)) ∷ ‵ (fat fullShare ty2 l2 0 s-input-starts) ∷ ‵ (fat fullShare ty3 l3 0 s-input-rows) ∷ ‵ (fat fullShare ty4 l4 0 s-input-values) ∷ ‵ (fat fullShare ty5 l5 0 (vint w64 cap)) ∷ ‵ (fat fullShare ty7 l7 0 s-list) ∷ ‵ (fat fullShare ty9 l9 0 s-permutation) ∷ ‵ (fat fullShare ty10 l10 0 s-firsts) ∷ ‵ (fat fullShare ty11 l11 0 s-starts) ∷ ‵ (fat fullShare ty12 l12 0 s-groups) ∷ ‵ (fat fullShare ty13 l13 0 s-tasks) ∷ ‵ (fat fullShare ty14 l14 0 s-top) ∷ ‵ (fat fullShare ty15 l15 0 s-words) ∷ ‵ (fat fullShare ty16 l16 0 s-floats) ∷ ‵ (fat fullShare ty17 l17 0 s-rows) ∷ ‵ (fat fullShare ty18 l18 0 s-updates) ∷ ‵ (fat fullShare ty19 l19 0 s-values) ∷ ‵ (fat fullShare ty21 l21 0 r1) ∷ ‵ (fat fullShare ty22 l22 0 r2) ∷ ‵ (froom ty23 l23 0) ∷ []) $
+          w-move ! (37 ∷ 50 ∷ []) $ w-lend ! tt usize κ-starts q-starts γ-starts b-starts o-starts (named 6) (named 6) starts (length starts) refl (λ ν3-10 δ3-10.
+          w-move ! (40 ∷ 52 ∷ []) $ w-lend ! tt usize κ-groups q-groups γ-groups b-groups o-groups (named 7) (named 7) groups (length groups) refl (λ ν3-11 δ3-11.
+          w-move ! (43 ∷ 54 ∷ []) $ w-lend ! tt usize κ-tasks q-tasks γ-tasks b-tasks o-tasks (named 8) (named 8) tasks (length tasks) refl (λ ν3-12 δ3-12.
+          w-written ! (‵ (MutSlice (named 8) (ν3-12 ∷ []) usize .own (ref-tasks δ3-12 tasks) (s-tasks ∷ [])) ∷ ‵ (LentAgain usize κ-tasks (ν3-12 ∷ []) q-tasks γ-tasks b-tasks o-tasks δ3-12 tasks) ∷ ‵ (flft (ν3-12 ∷ []) fullShare) ∷ ‵ (MutSlice (named 7) (ν3-11 ∷ []) usize .own (ref-groups δ3-11 groups) (s-groups ∷ [])) ∷ ‵ (LentAgain usize κ-groups (ν3-11 ∷ []) q-groups γ-groups b-groups o-groups δ3-11 groups) ∷ ‵ (flft (ν3-11 ∷ []) fullShare) ∷ ‵ (MutSlice (named 6) (ν3-10 ∷ []) usize .own (ref-starts δ3-10 starts) (s-starts ∷ [])) ∷ ‵ (LentAgain usize κ-starts (ν3-10 ∷ []) q-starts γ-starts b-starts o-starts δ3-10 starts) ∷ ‵ (flft (ν3-10 ∷ []) fullShare) ∷ ‵ (MutSlice (named 5) (ν3-9 ∷ []) usize .own (ref-firsts δ3-9 firsts) (s-firsts ∷ [])) ∷ ‵ (LentAgain usize κ-firsts (ν3-9 ∷ []) q-firsts γ-firsts b-firsts o-firsts δ3-9 firsts) ∷ ‵ (flft (ν3-9 ∷ []) fullShare) ∷ ‵ (MutSlice (named 4) (ν3-8 ∷ []) usize .own (ref-permutation δ3-8 permutation) (s-permutation ∷ [])) ∷ ‵ (LentAgain usize κ-permutation (ν3-8 ∷ []) q-permutation γ-permutation b-permutation o-permutation δ3-8 permutation) ∷ ‵ (flft (ν3-8 ∷ []) fullShare) ∷ ‵ (ShrSlice (named 3) κ-list usize .own (ref-list γ-list «list») (sliceVal (b-list, o-list) (length «list») ∷ [])) ∷ ‵ (ShrSlice (named 3) κ-list usize .own (ref-list γ-list «list») (sliceVal (b-list, o-list) (length «list») ∷ [])) ∷ ‵ (ShrSlice (named 2) κ-input-values f64 .own (ref-input-values γ-input-values input-values) (sliceVal (b-input-values, o-input-values) (length input-values) ∷ [])) ∷ ‵ (ShrSlice (named 2) κ-input-values f64 .own (ref-input-values γ-input-values input-values) (sliceVal (b-input-values, o-input-values) (length input-values) ∷ [])) ∷ ‵ (ShrSlice (named 1) κ-input-rows usize .own (ref-input-rows γ-input-rows input-rows) (sliceVal (b-input-rows, o-input-rows) (length input-rows) ∷ [])) ∷ ‵ (ShrSlice (named 1) κ-input-rows usize .own (ref-input-rows γ-input-rows input-rows) (sliceVal (b-input-rows, o-input-rows) (length input-rows) ∷ [])) ∷ ‵ (ShrSlice (named 0) κ-input-starts usize .own (ref-input-starts γ-input-starts input-starts) (sliceVal (b-input-starts, o-input-starts) (length input-starts) ∷ [])) ∷ ‵ (ShrSlice (named 0) κ-input-starts usize .own (ref-input-starts γ-input-starts input-starts) (sliceVal (b-input-starts, o-input-starts) (length input-starts) ∷ [])) ∷ raw (Packed 𝓤 H A (‵ (MutRef (named 15) κ-results (Array usize 12) .own (ref-results γ-results results) (s-results ∷ [])) ∷ ‵ (flft κ-results q-results) ∷ ‵ (fat fullShare ty6 l6 0 (vint w64 order)) ∷ ‵ (fat fullShare ty8 l8 0 (vint w64 stop)) ∷ ‵ (fat fullShare ty20 l20 0 s-results) ∷ raw (Packed 𝓤 H A spare4) ∷ raw (Packed 𝓤 H A dying) ∷ [])) ∷ ‵ (fat fullShare ty24 l24 0 (vptr b-permutation o-permutation)) ∷ ‵ (fat fullShare ty25 l25 0 s-permutation) ∷ ‵ (fat fullShare ty26 l26 0 (vptr b-firsts o-firsts)) ∷ ‵ (fat fullShare ty27 l27 0 s-firsts) ∷ ‵ (fat fullShare ty28 l28 0 (vptr b-starts o-starts)) ∷ ‵ (fat fullShare ty29 l29 0 s-starts) ∷ ‵ (fat fullShare ty30 l30 0 (vptr b-groups o-groups)) ∷ ‵ (fat fullShare ty31 l31 0 s-groups) ∷ ‵ (fat fullShare ty32 l32 0 (vptr b-tasks o-tasks)) ∷ ‵ (fat fullShare ty33 l33 0 s-tasks) ∷ ‵ (fat fullShare ty34 l34 0 (vptr b-top o-top)) ∷ ‵ (fat fullShare ty35 l35 0 s-top) ∷ ‵ (fat fullShare ty36 l36 0 (vptr b-words o-words)) ∷ ‵ (fat fullShare ty37 l37 0 s-words) ∷ ‵ (fat fullShare ty38 l38 0 (vptr b-floats o-floats)) ∷ ‵ (fat fullShare ty39 l39 0 s-floats) ∷ ‵ (fat fullShare ty40 l40 0 (vptr b-rows o-rows)) ∷ ‵ (fat fullShare ty41 l41 0 s-rows) ∷ ‵ (fat fullShare ty42 l42 0 (vptr b-updates o-updates)) ∷ ‵ (fat fullShare ty43 l43 0 s-updates) ∷ ‵ (fat fullShare ty44 l44 0 (vptr b-values o-values)) ∷ ‵ (fat fullShare ty45 l45 0 s-values) ∷ ‵ (MutSlice (named 9) κ-top usize .own (ref-top γ-top top) (sliceVal (b-top, o-top) (length top) ∷ [])) ∷ ‵ (MutSlice (named 10) κ-words usize .own (ref-words γ-words words) (sliceVal (b-words, o-words) (length words) ∷ [])) ∷ ‵ (MutSlice (named 11) κ-floats f64 .own (ref-floats γ-floats floats) (sliceVal (b-floats, o-floats) (length floats) ∷ [])) ∷ ‵ (MutSlice (named 12) κ-rows usize .own (ref-rows γ-rows rows) (sliceVal (b-rows, o-rows) (length rows) ∷ [])) ∷ ‵ (MutSlice (named 13) κ-updates T-Update.the-row .own (ref-updates γ-updates updates) (sliceVal (b-updates, o-updates) (length updates) ∷ [])) ∷ ‵ (MutSlice (named 14) κ-values f64 .own (ref-values γ-values values) (sliceVal (b-values, o-values) (length values) ∷ [])) ∷ ‵ (flft κ-input-starts q-input-starts) ∷ ‵ (flft κ-input-rows q-input-rows) ∷ ‵ (flft κ-input-values q-input-values) ∷ ‵ (flft κ-list q-list) ∷ ‵ (flft κ-top q-top) ∷ ‵ (flft κ-words q-words) ∷ ‵ (flft κ-floats q-floats) ∷ ‵ (flft κ-rows q-rows) ∷ ‵ (flft κ-updates q-updates) ∷ ‵ (flft κ-values q-values) ∷ ‵ (froom ty0 l0 0) ∷ ‵ (fat fullShare ty1 l1 0 (vint w64 n)) ∷ ‵ (fat fullShare ty2 l2 0 s-input-starts) ∷ ‵ (fat fullShare ty3 l3 0 s-input-rows) ∷ ‵ (fat fullShare ty4 l4 0 s-input-values) ∷ ‵ (fat fullShare ty5 l5 0 (vint w64 cap)) ∷ ‵ (fat fullShare ty7 l7 0 s-list) ∷ ‵ (fat fullShare ty9 l9 0 s-permutation) ∷ ‵ (fat fullShare ty10 l10 0 s-firsts) ∷ ‵ (fat fullShare ty11 l11 0 s-starts) ∷ ‵ (fat fullShare ty12 l12 0 s-groups) ∷ ‵ (fat fullShare ty13 l13 0 s-tasks) ∷ ‵ (fat fullShare ty14 l14 0 s-top) ∷ ‵ (fat fullShare ty15 l15 0 s-words) ∷ ‵ (fat fullShare ty16 l16 0 s-floats) ∷ ‵ (fat fullShare ty17 l17 0 s-rows) ∷ ‵ (fat fullShare ty18 l18 0 s-updates) ∷ ‵ (fat fullShare ty19 l19 0 s-values) ∷ ‵ (fat fullShare ty21 l21 0 r1) ∷ ‵ (fat fullShare ty22 l22 0 r2) ∷ ‵ (froom ty23 l23 0) ∷ []) $
+          w-move ! (46 ∷ 56 ∷ []) $ w-lend ! tt usize κ-top q-top γ-top b-top o-top (named 9) (named 9) top (length top) refl (λ ν3-13 δ3-13.
+          w-move ! (49 ∷ 58 ∷ []) $ w-lend ! tt usize κ-words q-words γ-words b-words o-words (named 10) (named 10) words (length words) refl (λ ν3-14 δ3-14.
+          w-move ! (52 ∷ 60 ∷ []) $ w-lend ! tt f64 κ-floats q-floats γ-floats b-floats o-floats (named 11) (named 11) floats (length floats) refl (λ ν3-15 δ3-15.
+          w-written ! (‵ (MutSlice (named 11) (ν3-15 ∷ []) f64 .own (ref-floats δ3-15 floats) (s-floats ∷ [])) ∷ ‵ (LentAgain f64 κ-floats (ν3-15 ∷ []) q-floats γ-floats b-floats o-floats δ3-15 floats) ∷ ‵ (flft (ν3-15 ∷ []) fullShare) ∷ ‵ (MutSlice (named 10) (ν3-14 ∷ []) usize .own (ref-words δ3-14 words) (s-words ∷ [])) ∷ ‵ (LentAgain usize κ-words (ν3-14 ∷ []) q-words γ-words b-words o-words δ3-14 words) ∷ ‵ (flft (ν3-14 ∷ []) fullShare) ∷ ‵ (MutSlice (named 9) (ν3-13 ∷ []) usize .own (ref-top δ3-13 top) (s-top ∷ [])) ∷ ‵ (LentAgain usize κ-top (ν3-13 ∷ []) q-top γ-top b-top o-top δ3-13 top) ∷ ‵ (flft (ν3-13 ∷ []) fullShare) ∷ ‵ (MutSlice (named 8) (ν3-12 ∷ []) usize .own (ref-tasks δ3-12 tasks) (s-tasks ∷ [])) ∷ ‵ (LentAgain usize κ-tasks (ν3-12 ∷ []) q-tasks γ-tasks b-tasks o-tasks δ3-12 tasks) ∷ ‵ (flft (ν3-12 ∷ []) fullShare) ∷ ‵ (MutSlice (named 7) (ν3-11 ∷ []) usize .own (ref-groups δ3-11 groups) (s-groups ∷ [])) ∷ ‵ (LentAgain usize κ-groups (ν3-11 ∷ []) q-groups γ-groups b-groups o-groups δ3-11 groups) ∷ ‵ (flft (ν3-11 ∷ []) fullShare) ∷ ‵ (MutSlice (named 6) (ν3-10 ∷ []) usize .own (ref-starts δ3-10 starts) (s-starts ∷ [])) ∷ ‵ (LentAgain usize κ-starts (ν3-10 ∷ []) q-starts γ-starts b-starts o-starts δ3-10 starts) ∷ ‵ (flft (ν3-10 ∷ []) fullShare) ∷ ‵ (MutSlice (named 5) (ν3-9 ∷ []) usize .own (ref-firsts δ3-9 firsts) (s-firsts ∷ [])) ∷ ‵ (LentAgain usize κ-firsts (ν3-9 ∷ []) q-firsts γ-firsts b-firsts o-firsts δ3-9 firsts) ∷ ‵ (flft (ν3-9 ∷ []) fullShare) ∷ ‵ (MutSlice (named 4) (ν3-8 ∷ []) usize .own (ref-permutation δ3-8 permutation) (s-permutation ∷ [])) ∷ ‵ (LentAgain usize κ-permutation (ν3-8 ∷ []) q-permutation γ-permutation b-permutation o-permutation δ3-8 permutation) ∷ ‵ (flft (ν3-8 ∷ []) fullShare) ∷ ‵ (ShrSlice (named 3) κ-list usize .own (ref-list γ-list «list») (sliceVal (b-list, o-list) (length «list») ∷ [])) ∷ ‵ (ShrSlice (named 3) κ-list usize .own (ref-list γ-list «list») (sliceVal (b-list, o-list) (length «list») ∷ [])) ∷ ‵ (ShrSlice (named 2) κ-input-values f64 .own (ref-input-values γ-input-values input-values) (sliceVal (b-input-values, o-input-values) (length input-values) ∷ [])) ∷ ‵ (ShrSlice (named 2) κ-input-values f64 .own (ref-input-values γ-input-values input-values) (sliceVal (b-input-values, o-input-values) (length input-values) ∷ [])) ∷ ‵ (ShrSlice (named 1) κ-input-rows usize .own (ref-input-rows γ-input-rows input-rows) (sliceVal (b-input-rows, o-input-rows) (length input-rows) ∷ [])) ∷ ‵ (ShrSlice (named 1) κ-input-rows usize .own (ref-input-rows γ-input-rows input-rows) (sliceVal (b-input-rows, o-input-rows) (length input-rows) ∷ [])) ∷ ‵ (ShrSlice (named 0) κ-input-starts usize .own (ref-input-starts γ-input-starts input-starts) (sliceVal (b-input-starts, o-input-starts) (length input-starts) ∷ [])) ∷ ‵ (ShrSlice (named 0) κ-input-starts usize .own (ref-input-starts γ-input-starts input-starts) (sliceVal (b-input-starts, o-input-starts) (length input-starts) ∷ [])) ∷ raw (Packed 𝓤 H A (‵ (MutRef (named 15) κ-results (Array usize 12) .own (ref-results γ-results results) (s-results ∷ [])) ∷ ‵ (flft κ-results q-results) ∷ ‵ (fat fullShare ty6 l6 0 (vint w64 order)) ∷ ‵ (fat fullShare ty8 l8 0 (vint w64 stop)) ∷ ‵ (fat fullShare ty20 l20 0 s-results) ∷ raw (Packed 𝓤 H A spare4) ∷ raw (Packed 𝓤 H A dying) ∷ [])) ∷ ‵ (fat fullShare ty24 l24 0 (vptr b-permutation o-permutation)) ∷ ‵ (fat fullShare ty25 l25 0 s-permutation) ∷ ‵ (fat fullShare ty26 l26 0 (vptr b-firsts o-firsts)) ∷ ‵ (fat fullShare ty27 l27 0 s-firsts) ∷ ‵ (fat fullShare ty28 l28 0 (vptr b-starts o-starts)) ∷ ‵ (fat fullShare ty29 l29 0 s-starts) ∷ ‵ (fat fullShare ty30 l30 0 (vptr b-groups o-groups)) ∷ ‵ (fat fullShare ty31 l31 0 s-groups) ∷ ‵ (fat fullShare ty32 l32 0 (vptr b-tasks o-tasks)) ∷ ‵ (fat fullShare ty33 l33 0 s-tasks) ∷ ‵ (fat fullShare ty34 l34 0 (vptr b-top o-top)) ∷ ‵ (fat fullShare ty35 l35 0 s-top) ∷ ‵ (fat fullShare ty36 l36 0 (vptr b-words o-words)) ∷ ‵ (fat fullShare ty37 l37 0 s-words) ∷ ‵ (fat fullShare ty38 l38 0 (vptr b-floats o-floats)) ∷ ‵ (fat fullShare ty39 l39 0 s-floats) ∷ ‵ (fat fullShare ty40 l40 0 (vptr b-rows o-rows)) ∷ ‵ (fat fullShare ty41 l41 0 s-rows) ∷ ‵ (fat fullShare ty42 l42 0 (vptr b-updates o-updates)) ∷ ‵ (fat fullShare ty43 l43 0 s-updates) ∷ ‵ (fat fullShare ty44 l44 0 (vptr b-values o-values)) ∷ ‵ (fat fullShare ty45 l45 0 s-values) ∷ ‵ (MutSlice (named 12) κ-rows usize .own (ref-rows γ-rows rows) (sliceVal (b-rows, o-rows) (length rows) ∷ [])) ∷ ‵ (MutSlice (named 13) κ-updates T-Update.the-row .own (ref-updates γ-updates updates) (sliceVal (b-updates, o-updates) (length updates) ∷ [])) ∷ ‵ (MutSlice (named 14) κ-values f64 .own (ref-values γ-values values) (sliceVal (b-values, o-values) (length values) ∷ [])) ∷ ‵ (flft κ-input-starts q-input-starts) ∷ ‵ (flft κ-input-rows q-input-rows) ∷ ‵ (flft κ-input-values q-input-values) ∷ ‵ (flft κ-list q-list) ∷ ‵ (flft κ-rows q-rows) ∷ ‵ (flft κ-updates q-updates) ∷ ‵ (flft κ-values q-values) ∷ ‵ (froom ty0 l0 0) ∷ ‵ (fat fullShare ty1 l1 0 (vint w64 n)) ∷ ‵ (fat fullShare ty2 l2 0 s-input-starts) ∷ ‵ (fat fullShare ty3 l3 0 s-input-rows) ∷ ‵ (fat fullShare ty4 l4 0 s-input-values) ∷ ‵ (fat fullShare ty5 l5 0 (vint w64 cap)) ∷ ‵ (fat fullShare ty7 l7 0 s-list) ∷ ‵ (fat fullShare ty9 l9 0 s-permutation) ∷ ‵ (fat fullShare ty10 l10 0 s-firsts) ∷ ‵ (fat fullShare ty11 l11 0 s-starts) ∷ ‵ (fat fullShare ty12 l12 0 s-groups) ∷ ‵ (fat fullShare ty13 l13 0 s-tasks) ∷ ‵ (fat fullShare ty14 l14 0 s-top) ∷ ‵ (fat fullShare ty15 l15 0 s-words) ∷ ‵ (fat fullShare ty16 l16 0 s-floats) ∷ ‵ (fat fullShare ty17 l17 0 s-rows) ∷ ‵ (fat fullShare ty18 l18 0 s-updates) ∷ ‵ (fat fullShare ty19 l19 0 s-values) ∷ ‵ (fat fullShare ty21 l21 0 r1) ∷ ‵ (fat fullShare ty22 l22 0 r2) ∷ ‵ (froom ty23 l23 0) ∷ []) $
+          w-move ! (55 ∷ 62 ∷ []) $ w-lend ! tt usize κ-rows q-rows γ-rows b-rows o-rows (named 12) (named 12) rows (length rows) refl (λ ν3-16 δ3-16.
+          w-move ! (58 ∷ 64 ∷ []) $ w-lend ! tt T-Update.the-row κ-updates q-updates γ-updates b-updates o-updates (named 13) (named 13) updates (length updates) refl (λ ν3-17 δ3-17.
+          w-move ! (61 ∷ 66 ∷ []) $ w-lend ! tt f64 κ-values q-values γ-values b-values o-values (named 14) (named 14) values (length values) refl (λ ν3-18 δ3-18.
+          w-written ! (‵ (MutSlice (named 14) (ν3-18 ∷ []) f64 .own (ref-values δ3-18 values) (s-values ∷ [])) ∷ ‵ (LentAgain f64 κ-values (ν3-18 ∷ []) q-values γ-values b-values o-values δ3-18 values) ∷ ‵ (flft (ν3-18 ∷ []) fullShare) ∷ ‵ (MutSlice (named 13) (ν3-17 ∷ []) T-Update.the-row .own (ref-updates δ3-17 updates) (s-updates ∷ [])) ∷ ‵ (LentAgain T-Update.the-row κ-updates (ν3-17 ∷ []) q-updates γ-updates b-updates o-updates δ3-17 updates) ∷ ‵ (flft (ν3-17 ∷ []) fullShare) ∷ ‵ (MutSlice (named 12) (ν3-16 ∷ []) usize .own (ref-rows δ3-16 rows) (s-rows ∷ [])) ∷ ‵ (LentAgain usize κ-rows (ν3-16 ∷ []) q-rows γ-rows b-rows o-rows δ3-16 rows) ∷ ‵ (flft (ν3-16 ∷ []) fullShare) ∷ ‵ (MutSlice (named 11) (ν3-15 ∷ []) f64 .own (ref-floats δ3-15 floats) (s-floats ∷ [])) ∷ ‵ (LentAgain f64 κ-floats (ν3-15 ∷ []) q-floats γ-floats b-floats o-floats δ3-15 floats) ∷ ‵ (flft (ν3-15 ∷ []) fullShare) ∷ ‵ (MutSlice (named 10) (ν3-14 ∷ []) usize .own (ref-words δ3-14 words) (s-words ∷ [])) ∷ ‵ (LentAgain usize κ-words (ν3-14 ∷ []) q-words γ-words b-words o-words δ3-14 words) ∷ ‵ (flft (ν3-14 ∷ []) fullShare) ∷ ‵ (MutSlice (named 9) (ν3-13 ∷ []) usize .own (ref-top δ3-13 top) (s-top ∷ [])) ∷ ‵ (LentAgain usize κ-top (ν3-13 ∷ []) q-top γ-top b-top o-top δ3-13 top) ∷ ‵ (flft (ν3-13 ∷ []) fullShare) ∷ ‵ (MutSlice (named 8) (ν3-12 ∷ []) usize .own (ref-tasks δ3-12 tasks) (s-tasks ∷ [])) ∷ ‵ (LentAgain usize κ-tasks (ν3-12 ∷ []) q-tasks γ-tasks b-tasks o-tasks δ3-12 tasks) ∷ ‵ (flft (ν3-12 ∷ []) fullShare) ∷ ‵ (MutSlice (named 7) (ν3-11 ∷ []) usize .own (ref-groups δ3-11 groups) (s-groups ∷ [])) ∷ ‵ (LentAgain usize κ-groups (ν3-11 ∷ []) q-groups γ-groups b-groups o-groups δ3-11 groups) ∷ ‵ (flft (ν3-11 ∷ []) fullShare) ∷ ‵ (MutSlice (named 6) (ν3-10 ∷ []) usize .own (ref-starts δ3-10 starts) (s-starts ∷ [])) ∷ ‵ (LentAgain usize κ-starts (ν3-10 ∷ []) q-starts γ-starts b-starts o-starts δ3-10 starts) ∷ ‵ (flft (ν3-10 ∷ []) fullShare) ∷ ‵ (MutSlice (named 5) (ν3-9 ∷ []) usize .own (ref-firsts δ3-9 firsts) (s-firsts ∷ [])) ∷ ‵ (LentAgain usize κ-firsts (ν3-9 ∷ []) q-firsts γ-firsts b-firsts o-firsts δ3-9 firsts) ∷ ‵ (flft (ν3-9 ∷ []) fullShare) ∷ ‵ (MutSlice (named 4) (ν3-8 ∷ []) usize .own (ref-permutation δ3-8 permutation) (s-permutation ∷ [])) ∷ ‵ (LentAgain usize κ-permutation (ν3-8 ∷ []) q-permutation γ-permutation b-permutation o-permutation δ3-8 permutation) ∷ ‵ (flft (ν3-8 ∷ []) fullShare) ∷ ‵ (ShrSlice (named 3) κ-list usize .own (ref-list γ-list «list») (sliceVal (b-list, o-list) (length «list») ∷ [])) ∷ ‵ (ShrSlice (named 3) κ-list usize .own (ref-list γ-list «list») (sliceVal (b-list, o-list) (length «list») ∷ [])) ∷ ‵ (ShrSlice (named 2) κ-input-values f64 .own (ref-input-values γ-input-values input-values) (sliceVal (b-input-values, o-input-values) (length input-values) ∷ [])) ∷ ‵ (ShrSlice (named 2) κ-input-values f64 .own (ref-input-values γ-input-values input-values) (sliceVal (b-input-values, o-input-values) (length input-values) ∷ [])) ∷ ‵ (ShrSlice (named 1) κ-input-rows usize .own (ref-input-rows γ-input-rows input-rows) (sliceVal (b-input-rows, o-input-rows) (length input-rows) ∷ [])) ∷ ‵ (ShrSlice (named 1) κ-input-rows usize .own (ref-input-rows γ-input-rows input-rows) (sliceVal (b-input-rows, o-input-rows) (length input-rows) ∷ [])) ∷ ‵ (ShrSlice (named 0) κ-input-starts usize .own (ref-input-starts γ-input-starts input-starts) (sliceVal (b-input-starts, o-input-starts) (length input-starts) ∷ [])) ∷ ‵ (ShrSlice (named 0) κ-input-starts usize .own (ref-input-starts γ-input-starts input-starts) (sliceVal (b-input-starts, o-input-starts) (length input-starts) ∷ [])) ∷ raw (Packed 𝓤 H A (‵ (MutRef (named 15) κ-results (Array usize 12) .own (ref-results γ-results results) (s-results ∷ [])) ∷ ‵ (flft κ-results q-results) ∷ ‵ (fat fullShare ty6 l6 0 (vint w64 order)) ∷ ‵ (fat fullShare ty8 l8 0 (vint w64 stop)) ∷ ‵ (fat fullShare ty20 l20 0 s-results) ∷ raw (Packed 𝓤 H A spare4) ∷ raw (Packed 𝓤 H A dying) ∷ [])) ∷ ‵ (fat fullShare ty24 l24 0 (vptr b-permutation o-permutation)) ∷ ‵ (fat fullShare ty25 l25 0 s-permutation) ∷ ‵ (fat fullShare ty26 l26 0 (vptr b-firsts o-firsts)) ∷ ‵ (fat fullShare ty27 l27 0 s-firsts) ∷ ‵ (fat fullShare ty28 l28 0 (vptr b-starts o-starts)) ∷ ‵ (fat fullShare ty29 l29 0 s-starts) ∷ ‵ (fat fullShare ty30 l30 0 (vptr b-groups o-groups)) ∷ ‵ (fat fullShare ty31 l31 0 s-groups) ∷ ‵ (fat fullShare ty32 l32 0 (vptr b-tasks o-tasks)) ∷ ‵ (fat fullShare ty33 l33 0 s-tasks) ∷ ‵ (fat fullShare ty34 l34 0 (vptr b-top o-top)) ∷ ‵ (fat fullShare ty35 l35 0 s-top) ∷ ‵ (fat fullShare ty36 l36 0 (vptr b-words o-words)) ∷ ‵ (fat fullShare ty37 l37 0 s-words) ∷ ‵ (fat fullShare ty38 l38 0 (vptr b-floats o-floats)) ∷ ‵ (fat fullShare ty39 l39 0 s-floats) ∷ ‵ (fat fullShare ty40 l40 0 (vptr b-rows o-rows)) ∷ ‵ (fat fullShare ty41 l41 0 s-rows) ∷ ‵ (fat fullShare ty42 l42 0 (vptr b-updates o-updates)) ∷ ‵ (fat fullShare ty43 l43 0 s-updates) ∷ ‵ (fat fullShare ty44 l44 0 (vptr b-values o-values)) ∷ ‵ (fat fullShare ty45 l45 0 s-values) ∷ ‵ (flft κ-input-starts q-input-starts) ∷ ‵ (flft κ-input-rows q-input-rows) ∷ ‵ (flft κ-input-values q-input-values) ∷ ‵ (flft κ-list q-list) ∷ ‵ (froom ty0 l0 0) ∷ ‵ (fat fullShare ty1 l1 0 (vint w64 n)) ∷ ‵ (fat fullShare ty2 l2 0 s-input-starts) ∷ ‵ (fat fullShare ty3 l3 0 s-input-rows) ∷ ‵ (fat fullShare ty4 l4 0 s-input-values) ∷ ‵ (fat fullShare ty5 l5 0 (vint w64 cap)) ∷ ‵ (fat fullShare ty7 l7 0 s-list) ∷ ‵ (fat fullShare ty9 l9 0 s-permutation) ∷ ‵ (fat fullShare ty10 l10 0 s-firsts) ∷ ‵ (fat fullShare ty11 l11 0 s-starts) ∷ ‵ (fat fullShare ty12 l12 0 s-groups) ∷ ‵ (fat fullShare ty13 l13 0 s-tasks) ∷ ‵ (fat fullShare ty14 l14 0 s-top) ∷ ‵ (fat fullShare ty15 l15 0 s-words) ∷ ‵ (fat fullShare ty16 l16 0 s-floats) ∷ ‵ (fat fullShare ty17 l17 0 s-rows) ∷ ‵ (fat fullShare ty18 l18 0 s-updates) ∷ ‵ (fat fullShare ty19 l19 0 s-values) ∷ ‵ (fat fullShare ty21 l21 0 r1) ∷ ‵ (fat fullShare ty22 l22 0 r2) ∷ ‵ (froom ty23 l23 0) ∷ []) $
           w-nothing ! $ w-move ! (1 ∷ 0 ∷ []) $ w-fjoin ! $ w-move ! (3 ∷ 0 ∷ []) $ w-fjoin ! $ w-move ! (5 ∷ 0 ∷ []) $ w-fjoin ! $ w-move ! (7 ∷ 0 ∷ []) $ w-fjoin ! $ w-move ! (9 ∷ 0 ∷ []) $ w-fjoin ! $ w-move ! (11 ∷ 0 ∷ []) $ w-fjoin ! $ w-move ! (13 ∷ 0 ∷ []) $ w-fjoin ! $ w-move ! (15 ∷ 0 ∷ []) $ w-fjoin ! $ w-move ! (17 ∷ 0 ∷ []) $ w-fjoin ! $ w-move ! (19 ∷ 0 ∷ []) $ w-fjoin ! $ w-move ! (21 ∷ 0 ∷ []) $ w-fjoin ! $ w-owned ! T-Stop.the-row (Is T-Stop.the-row) (EL.makes T-Stop.the-type L-Stop.the-plain 𝓤 H A) u2 _ is2 $ w-fjoin ! $ w-move ! (23 ∷ 0 ∷ []) $ w-fjoin ! $ w-owned ! T-Order.the-row (Is T-Order.the-row) (EL.makes T-Order.the-type L-Order.the-plain 𝓤 H A) u1 _ is1 $ w-fjoin ! $ w-owned ! usize (Is usize) (uint-makes 𝓤 H A W w64) cap _ ((refl, fits-cap)) $ w-fjoin ! $ w-move ! (24 ∷ 0 ∷ []) $ w-fjoin ! $ w-move ! (25 ∷ 0 ∷ []) $ w-fjoin ! $ w-move ! (26 ∷ 0 ∷ []) $ w-fjoin ! $ w-owned ! usize (Is usize) (uint-makes 𝓤 H A W w64) n _ ((refl, fits-n)) $ w-fjoin ! $
           w-nothing ! $ w-move ! (3 ∷ 0 ∷ []) $ w-join ! $ w-move ! (4 ∷ 0 ∷ []) $ w-join ! $ w-move ! (5 ∷ 0 ∷ []) $ w-join ! $ w-move ! (6 ∷ 0 ∷ []) $ w-join ! $ w-move ! (7 ∷ 0 ∷ []) $ w-join ! $ w-move ! (8 ∷ 0 ∷ []) $ w-join ! $ w-move ! (9 ∷ 0 ∷ []) $ w-join ! $ w-move ! (10 ∷ 0 ∷ []) $ w-join ! $ w-move ! (11 ∷ 0 ∷ []) $ w-join ! $ w-move ! (12 ∷ 0 ∷ []) $ w-join ! $ w-move ! (13 ∷ 0 ∷ []) $ w-join ! $ w-move ! (43 ∷ 0 ∷ []) $ w-join ! $ w-move ! (42 ∷ 0 ∷ []) $ w-join ! $ w-move ! (41 ∷ 0 ∷ []) $ w-join ! $ w-move ! (40 ∷ 0 ∷ []) $ w-join ! $
-          use2 W (raw (C-factor 𝓤 H A mem run .pre (((κ-input-starts, (κ-input-rows, (κ-input-values, (κ-list, (ν3-8 ∷ [], (ν3-9 ∷ [], (ν3-10 ∷ [], (ν3-11 ∷ [], (ν3-12 ∷ [], (ν3-13 ∷ [], (ν3-14 ∷ [], (ν3-15 ∷ [], (ν3-16 ∷ [], (ν3-17 ∷ [], (ν3-18 ∷ [], tt))))))))))))))), (q-input-starts, (q-input-rows, (q-input-values, (q-list, (fullShare, (fullShare, (fullShare, (fullShare, (fullShare, (fullShare, (fullShare, (fullShare, (fullShare, (fullShare, (fullShare, tt))))))))))))))), tt, (n, (ref-input-starts γ-input-starts input-starts, (ref-input-rows γ-input-rows input-rows, (ref-input-values γ-input-values input-values, (cap, (u1, (ref-list γ-list «list», (u2, (ref-permutation δ3-8 permutation, (ref-firsts δ3-9 firsts, (ref-starts δ3-10 starts, (ref-groups δ3-11 groups, (ref-tasks δ3-12 tasks, (ref-top δ3-13 top, (ref-words δ3-14 words, (ref-floats δ3-15 floats, (ref-rows δ3-16 rows, (ref-updates δ3-17 updates, (ref-values δ3-18 values, tt))))))))))))))))))), (vint w64 n ∷ [], (sliceVal (b-input-starts, o-input-starts) (length input-starts) ∷ [], (sliceVal (b-input-rows, o-input-rows) (length input-rows) ∷ [], (sliceVal (b-input-values, o-input-values) (length input-values) ∷ [], (vint w64 cap ∷ [], (r1 ∷ [], (sliceVal (b-list, o-list) (length «list») ∷ [], (r2 ∷ [], (sliceVal (b-permutation, o-permutation) (length permutation) ∷ [], (sliceVal (b-firsts, o-firsts) (length firsts) ∷ [], (sliceVal (b-starts, o-starts) (length starts) ∷ [], (sliceVal (b-groups, o-groups) (length groups) ∷ [], (sliceVal (b-tasks, o-tasks) (length tasks) ∷ [], (sliceVal (b-top, o-top) (length top) ∷ [], (sliceVal (b-words, o-words) (length words) ∷ [], (sliceVal (b-floats, o-floats) (length floats) ∷ [], (sliceVal (b-rows, o-rows) (length rows) ∷ [], (sliceVal (b-updates, o-updates) (length updates) ∷ [], (sliceVal (b-values, o-values) (length values) ∷ [], tt)))))))))))))))))))), tt))) (asked3 u1 r1 is1 d1 u2 r2 is2 d2 ν3-8 δ3-8 ν3-9 δ3-9 ν3-10 δ3-10 ν3-11 δ3-11 ν3-12 δ3-12 ν3-13 δ3-13 ν3-14 δ3-14 ν3-15 δ3-15 ν3-16 δ3-16 ν3-17 δ3-17 ν3-18 δ3-18) $
-          w-calls-at ! fm (C-factor 𝓤 H A mem run) known-factor (((κ-input-starts, (κ-input-rows, (κ-input-values, (κ-list, (ν3-8 ∷ [], (ν3-9 ∷ [], (ν3-10 ∷ [], (ν3-11 ∷ [], (ν3-12 ∷ [], (ν3-13 ∷ [], (ν3-14 ∷ [], (ν3-15 ∷ [], (ν3-16 ∷ [], (ν3-17 ∷ [], (ν3-18 ∷ [], tt))))))))))))))), (q-input-starts, (q-input-rows, (q-input-values, (q-list, (fullShare, (fullShare, (fullShare, (fullShare, (fullShare, (fullShare, (fullShare, (fullShare, (fullShare, (fullShare, (fullShare, tt))))))))))))))), tt, (n, (ref-input-starts γ-input-starts input-starts, (ref-input-rows γ-input-rows input-rows, (ref-input-values γ-input-values input-values, (cap, (u1, (ref-list γ-list «list», (u2, (ref-permutation δ3-8 permutation, (ref-firsts δ3-9 firsts, (ref-starts δ3-10 starts, (ref-groups δ3-11 groups, (ref-tasks δ3-12 tasks, (ref-top δ3-13 top, (ref-words δ3-14 words, (ref-floats δ3-15 floats, (ref-rows δ3-16 rows, (ref-updates δ3-17 updates, (ref-values δ3-18 values, tt))))))))))))))))))), (vint w64 n ∷ [], (sliceVal (b-input-starts, o-input-starts) (length input-starts) ∷ [], (sliceVal (b-input-rows, o-input-rows) (length input-rows) ∷ [], (sliceVal (b-input-values, o-input-values) (length input-values) ∷ [], (vint w64 cap ∷ [], (r1 ∷ [], (sliceVal (b-list, o-list) (length «list») ∷ [], (r2 ∷ [], (sliceVal (b-permutation, o-permutation) (length permutation) ∷ [], (sliceVal (b-firsts, o-firsts) (length firsts) ∷ [], (sliceVal (b-starts, o-starts) (length starts) ∷ [], (sliceVal (b-groups, o-groups) (length groups) ∷ [], (sliceVal (b-tasks, o-tasks) (length tasks) ∷ [], (sliceVal (b-top, o-top) (length top) ∷ [], (sliceVal (b-words, o-words) (length words) ∷ [], (sliceVal (b-floats, o-floats) (length floats) ∷ [], (sliceVal (b-rows, o-rows) (length rows) ∷ [], (sliceVal (b-updates, o-updates) (length updates) ∷ [], (sliceVal (b-values, o-values) (length values) ∷ [], tt)))))))))))))))))))), tt) (w-and-then ! (w-load ! (w-from ! (w-stop !)) (w-look ! 40 refl)) (w-and-then ! (w-load ! (w-from ! (w-stop !)) (w-look ! 41 refl)) (w-and-then ! (w-load ! (w-from ! (w-stop !)) (w-look ! 42 refl)) (w-and-then ! (w-load ! (w-from ! (w-stop !)) (w-look ! 43 refl)) (w-and-then ! (w-load ! (w-from ! (w-stop !)) (w-look ! 44 refl)) (w-and-then ! (w-load ! (w-from ! (w-stop !)) (w-look ! 57 refl)) (w-and-then ! (w-load ! (w-from ! (w-stop !)) (w-look ! 45 refl)) (w-and-then ! (w-load ! (w-from ! (w-stop !)) (w-look ! 58 refl)) (w-and-then ! (w-load ! (w-from ! (w-stop !)) (w-look ! 18 refl)) (w-and-then ! (w-load ! (w-from ! (w-stop !)) (w-look ! 20 refl)) (w-and-then ! (w-load ! (w-from ! (w-stop !)) (w-look ! 22 refl)) (w-and-then ! (w-load ! (w-from ! (w-stop !)) (w-look ! 24 refl)) (w-and-then ! (w-load ! (w-from ! (w-stop !)) (w-look ! 26 refl)) (w-and-then ! (w-load ! (w-from ! (w-stop !)) (w-look ! 28 refl)) (w-and-then ! (w-load ! (w-from ! (w-stop !)) (w-look ! 30 refl)) (w-and-then ! (w-load ! (w-from ! (w-stop !)) (w-look ! 32 refl)) (w-and-then ! (w-load ! (w-from ! (w-stop !)) (w-look ! 34 refl)) (w-and-then ! (w-load ! (w-from ! (w-stop !)) (w-look ! 36 refl)) (w-and-then ! (w-load ! (w-from ! (w-stop !)) (w-look ! 38 refl)) (w-no-more !)))))))))))))))))))) (λ r3.
+          use2 W (raw (C-factor 𝓤 H A mem run .pre (((κ-input-starts, (κ-input-rows, (κ-input-values, (κ-list, (ν3-8 ∷ [], (ν3-9 ∷ [], (ν3-10 ∷ [], (ν3-11 ∷ [], (ν3-12 ∷ [], (ν3-13 ∷ [], (ν3-14 ∷ [], (ν3-15 ∷ [], (ν3-16 ∷ [], (ν3-17 ∷ [], (ν3-18 ∷ [], tt))))))))))))))), (q-input-starts, (q-input-rows, (q-input-values, (q-list, (fullShare, (fullShare, (fullShare, (fullShare, (fullShare, (fullShare, (fullShare, (fullShare, (fullShare, (fullShare, (fullShare, tt))))))))))))))), tt, (n, (ref-input-starts γ-input-starts input-starts, (ref-input-rows γ-input-rows input-rows, (ref-input-values γ-input-values input-values, (cap, (u1, (ref-list γ-list «list», (u2, (ref-permutation δ3-8 permutation, (ref-firsts δ3-9 firsts, (ref-starts δ3-10 starts, (ref-groups δ3-11 groups, (ref-tasks δ3-12 tasks, (ref-top δ3-13 top, (ref-words δ3-14 words, (ref-floats δ3-15 floats, (ref-rows δ3-16 rows, (ref-updates δ3-17 updates, (ref-values δ3-18 values, tt))))))))))))))))))), (vint w64 n ∷ [], (s-input-starts ∷ [], (s-input-rows ∷ [], (s-input-values ∷ [], (vint w64 cap ∷ [], (r1 ∷ [], (s-list ∷ [], (r2 ∷ [], (s-permutation ∷ [], (s-firsts ∷ [], (s-starts ∷ [], (s-groups ∷ [], (s-tasks ∷ [], (s-top ∷ [], (s-words ∷ [], (s-floats ∷ [], (s-rows ∷ [], (s-updates ∷ [], (s-values ∷ [], tt)))))))))))))))))))), tt))) (asked3 u1 r1 is1 d1 u2 r2 is2 d2 ν3-8 δ3-8 ν3-9 δ3-9 ν3-10 δ3-10 ν3-11 δ3-11 ν3-12 δ3-12 ν3-13 δ3-13 ν3-14 δ3-14 ν3-15 δ3-15 ν3-16 δ3-16 ν3-17 δ3-17 ν3-18 δ3-18) $
+          w-calls-at ! fm (C-factor 𝓤 H A mem run) known-factor (((κ-input-starts, (κ-input-rows, (κ-input-values, (κ-list, (ν3-8 ∷ [], (ν3-9 ∷ [], (ν3-10 ∷ [], (ν3-11 ∷ [], (ν3-12 ∷ [], (ν3-13 ∷ [], (ν3-14 ∷ [], (ν3-15 ∷ [], (ν3-16 ∷ [], (ν3-17 ∷ [], (ν3-18 ∷ [], tt))))))))))))))), (q-input-starts, (q-input-rows, (q-input-values, (q-list, (fullShare, (fullShare, (fullShare, (fullShare, (fullShare, (fullShare, (fullShare, (fullShare, (fullShare, (fullShare, (fullShare, tt))))))))))))))), tt, (n, (ref-input-starts γ-input-starts input-starts, (ref-input-rows γ-input-rows input-rows, (ref-input-values γ-input-values input-values, (cap, (u1, (ref-list γ-list «list», (u2, (ref-permutation δ3-8 permutation, (ref-firsts δ3-9 firsts, (ref-starts δ3-10 starts, (ref-groups δ3-11 groups, (ref-tasks δ3-12 tasks, (ref-top δ3-13 top, (ref-words δ3-14 words, (ref-floats δ3-15 floats, (ref-rows δ3-16 rows, (ref-updates δ3-17 updates, (ref-values δ3-18 values, tt))))))))))))))))))), (vint w64 n ∷ [], (s-input-starts ∷ [], (s-input-rows ∷ [], (s-input-values ∷ [], (vint w64 cap ∷ [], (r1 ∷ [], (s-list ∷ [], (r2 ∷ [], (s-permutation ∷ [], (s-firsts ∷ [], (s-starts ∷ [], (s-groups ∷ [], (s-tasks ∷ [], (s-top ∷ [], (s-words ∷ [], (s-floats ∷ [], (s-rows ∷ [], (s-updates ∷ [], (s-values ∷ [], tt)))))))))))))))))))), tt) (w-and-then ! (w-load ! (w-from ! (w-stop !)) (w-look ! 40 refl)) (w-and-then ! (w-load ! (w-from ! (w-stop !)) (w-look ! 41 refl)) (w-and-then ! (w-load ! (w-from ! (w-stop !)) (w-look ! 42 refl)) (w-and-then ! (w-load ! (w-from ! (w-stop !)) (w-look ! 43 refl)) (w-and-then ! (w-load ! (w-from ! (w-stop !)) (w-look ! 44 refl)) (w-and-then ! (w-load ! (w-from ! (w-stop !)) (w-look ! 57 refl)) (w-and-then ! (w-load ! (w-from ! (w-stop !)) (w-look ! 45 refl)) (w-and-then ! (w-load ! (w-from ! (w-stop !)) (w-look ! 58 refl)) (w-and-then ! (w-load ! (w-from ! (w-stop !)) (w-look ! 18 refl)) (w-and-then ! (w-load ! (w-from ! (w-stop !)) (w-look ! 20 refl)) (w-and-then ! (w-load ! (w-from ! (w-stop !)) (w-look ! 22 refl)) (w-and-then ! (w-load ! (w-from ! (w-stop !)) (w-look ! 24 refl)) (w-and-then ! (w-load ! (w-from ! (w-stop !)) (w-look ! 26 refl)) (w-and-then ! (w-load ! (w-from ! (w-stop !)) (w-look ! 28 refl)) (w-and-then ! (w-load ! (w-from ! (w-stop !)) (w-look ! 30 refl)) (w-and-then ! (w-load ! (w-from ! (w-stop !)) (w-look ! 32 refl)) (w-and-then ! (w-load ! (w-from ! (w-stop !)) (w-look ! 34 refl)) (w-and-then ! (w-load ! (w-from ! (w-stop !)) (w-look ! 36 refl)) (w-and-then ! (w-load ! (w-from ! (w-stop !)) (w-look ! 38 refl)) (w-no-more !)))))))))))))))))))) (λ r3.
           use1 W (later (some (λ (u′ : Outcome). ((‵ (flft (κ-input-starts) q-input-starts) ⊛ ‵ (flft (κ-input-rows) q-input-rows) ⊛ ‵ (flft (κ-input-values) q-input-values) ⊛ ‵ (flft (κ-list) q-list) ⊛ ‵ (flft (ν3-8 ∷ []) fullShare) ⊛ ‵ (flft (ν3-9 ∷ []) fullShare) ⊛ ‵ (flft (ν3-10 ∷ []) fullShare) ⊛ ‵ (flft (ν3-11 ∷ []) fullShare) ⊛ ‵ (flft (ν3-12 ∷ []) fullShare) ⊛ ‵ (flft (ν3-13 ∷ []) fullShare) ⊛ ‵ (flft (ν3-14 ∷ []) fullShare) ⊛ ‵ (flft (ν3-15 ∷ []) fullShare) ⊛ ‵ (flft (ν3-16 ∷ []) fullShare) ⊛ ‵ (flft (ν3-17 ∷ []) fullShare) ⊛ ‵ (flft (ν3-18 ∷ []) fullShare) ⊛ ‵ ftrue) ⊛ ‵ (T-Outcome.the-row .own u′ (r3 ∷ []))) ⊛ raw (ensured 𝓤 H A f-factor.ended (f-factor.clauses 𝓤 H A mem run) (κ-input-starts, (κ-input-rows, (κ-input-values, (κ-list, (ν3-8 ∷ [], (ν3-9 ∷ [], (ν3-10 ∷ [], (ν3-11 ∷ [], (ν3-12 ∷ [], (ν3-13 ∷ [], (ν3-14 ∷ [], (ν3-15 ∷ [], (ν3-16 ∷ [], (ν3-17 ∷ [], (ν3-18 ∷ [], tt))))))))))))))) (n, (ref-input-starts γ-input-starts input-starts, (ref-input-rows γ-input-rows input-rows, (ref-input-values γ-input-values input-values, (cap, (u1, (ref-list γ-list «list», (u2, (ref-permutation δ3-8 permutation, (ref-firsts δ3-9 firsts, (ref-starts δ3-10 starts, (ref-groups δ3-11 groups, (ref-tasks δ3-12 tasks, (ref-top δ3-13 top, (ref-words δ3-14 words, (ref-floats δ3-15 floats, (ref-rows δ3-16 rows, (ref-updates δ3-17 updates, (ref-values δ3-18 values, tt))))))))))))))))))) tt u′)))) (id⊢ 𝓤 _) $ w-await ! tt $ w-pick ! (λ u3.
           w-split ! $ w-move ! (1 ∷ []) $ use1 W (some (λ (zs3 : Unit {0} × (Unit {0} × (Unit {0} × (Unit {0} × (Unit {0} × (Unit {0} × (Unit {0} × (Unit {0} × (List ℕ × (List ℕ × (List ℕ × (List ℕ × (List ℕ × (List ℕ × (List ℕ × (List Float × (List ℕ × (List Update × (List Float × Unit {0}))))))))))))))))))). ‵ (lasts f-factor.ended (κ-input-starts, (κ-input-rows, (κ-input-values, (κ-list, (ν3-8 ∷ [], (ν3-9 ∷ [], (ν3-10 ∷ [], (ν3-11 ∷ [], (ν3-12 ∷ [], (ν3-13 ∷ [], (ν3-14 ∷ [], (ν3-15 ∷ [], (ν3-16 ∷ [], (ν3-17 ∷ [], (ν3-18 ∷ [], tt))))))))))))))) (n, (ref-input-starts γ-input-starts input-starts, (ref-input-rows γ-input-rows input-rows, (ref-input-values γ-input-values input-values, (cap, (u1, (ref-list γ-list «list», (u2, (ref-permutation δ3-8 permutation, (ref-firsts δ3-9 firsts, (ref-starts δ3-10 starts, (ref-groups δ3-11 groups, (ref-tasks δ3-12 tasks, (ref-top δ3-13 top, (ref-words δ3-14 words, (ref-floats δ3-15 floats, (ref-rows δ3-16 rows, (ref-updates δ3-17 updates, (ref-values δ3-18 values, tt))))))))))))))))))) zs3) ⊛ raw (fact 𝓤 (FactorSettles (factor (matrix n (input-starts) (input-rows) (input-values)) cap u1 («list») u2 (lentAll (length (permutation)) (length (firsts)) (length (starts)) (length (groups)) (length (tasks)) (length (top)) (length (words)) (length (floats)) (length (rows)) (length (updates)) (length (values)))) u3 ((zs3 .1 .1 .1 .1 .1 .1 .1 .1 .0)) ((zs3 .1 .1 .1 .1 .1 .1 .1 .1 .1 .0)) ((zs3 .1 .1 .1 .1 .1 .1 .1 .1 .1 .1 .0)) ((zs3 .1 .1 .1 .1 .1 .1 .1 .1 .1 .1 .1 .0)) ((zs3 .1 .1 .1 .1 .1 .1 .1 .1 .1 .1 .1 .1 .0)) ((zs3 .1 .1 .1 .1 .1 .1 .1 .1 .1 .1 .1 .1 .1 .0)) ((zs3 .1 .1 .1 .1 .1 .1 .1 .1 .1 .1 .1 .1 .1 .1 .0)) ((zs3 .1 .1 .1 .1 .1 .1 .1 .1 .1 .1 .1 .1 .1 .1 .1 .0)) ((zs3 .1 .1 .1 .1 .1 .1 .1 .1 .1 .1 .1 .1 .1 .1 .1 .1 .0)) ((zs3 .1 .1 .1 .1 .1 .1 .1 .1 .1 .1 .1 .1 .1 .1 .1 .1 .1 .0)) ((zs3 .1 .1 .1 .1 .1 .1 .1 .1 .1 .1 .1 .1 .1 .1 .1 .1 .1 .1 .0)))))) (id⊢ 𝓤 _) $ w-pick ! (λ zs3. w-split ! $ w-move ! (1 ∷ []) $ w-heard ! (FactorSettles (factor (matrix n (input-starts) (input-rows) (input-values)) cap u1 («list») u2 (lentAll (length (permutation)) (length (firsts)) (length (starts)) (length (groups)) (length (tasks)) (length (top)) (length (words)) (length (floats)) (length (rows)) (length (updates)) (length (values)))) u3 ((zs3 .1 .1 .1 .1 .1 .1 .1 .1 .0)) ((zs3 .1 .1 .1 .1 .1 .1 .1 .1 .1 .0)) ((zs3 .1 .1 .1 .1 .1 .1 .1 .1 .1 .1 .0)) ((zs3 .1 .1 .1 .1 .1 .1 .1 .1 .1 .1 .1 .0)) ((zs3 .1 .1 .1 .1 .1 .1 .1 .1 .1 .1 .1 .1 .0)) ((zs3 .1 .1 .1 .1 .1 .1 .1 .1 .1 .1 .1 .1 .1 .0)) ((zs3 .1 .1 .1 .1 .1 .1 .1 .1 .1 .1 .1 .1 .1 .1 .0)) ((zs3 .1 .1 .1 .1 .1 .1 .1 .1 .1 .1 .1 .1 .1 .1 .1 .0)) ((zs3 .1 .1 .1 .1 .1 .1 .1 .1 .1 .1 .1 .1 .1 .1 .1 .1 .0)) ((zs3 .1 .1 .1 .1 .1 .1 .1 .1 .1 .1 .1 .1 .1 .1 .1 .1 .1 .0)) ((zs3 .1 .1 .1 .1 .1 .1 .1 .1 .1 .1 .1 .1 .1 .1 .1 .1 .1 .1 .0))) (λ d3.
-          w-fsplit ! $ w-drop ! $ w-fsplit ! $ w-drop ! $ w-fsplit ! $ w-drop ! $ w-fsplit ! $ w-drop ! $ w-fsplit ! $ w-drop ! $ w-fsplit ! $ w-drop ! $ w-fsplit ! $ w-drop ! $ w-fsplit ! $ w-drop ! $ w-fsplit ! $ w-fsplit ! $ w-move ! (1 ∷ []) $ w-feqL ! (λ same3-permutation. w-move ! (1 ∷ []) $ w-fsplit ! $ w-fsplit ! $ w-move ! (1 ∷ []) $ w-feqL ! (λ same3-firsts. w-move ! (1 ∷ []) $ w-fsplit ! $ w-fsplit ! $ w-move ! (1 ∷ []) $ w-feqL ! (λ same3-starts. w-move ! (1 ∷ []) $ w-fsplit ! $ w-fsplit ! $ w-move ! (1 ∷ []) $ w-feqL ! (λ same3-groups. w-move ! (1 ∷ []) $ w-fsplit ! $ w-fsplit ! $ w-move ! (1 ∷ []) $ w-feqL ! (λ same3-tasks. w-move ! (1 ∷ []) $ w-fsplit ! $ w-fsplit ! $ w-move ! (1 ∷ []) $ w-feqL ! (λ same3-top. w-move ! (1 ∷ []) $ w-fsplit ! $ w-fsplit ! $ w-move ! (1 ∷ []) $ w-feqL ! (λ same3-words. w-move ! (1 ∷ []) $ w-fsplit ! $ w-fsplit ! $ w-move ! (1 ∷ []) $ w-feqL ! (λ same3-floats. w-move ! (1 ∷ []) $ w-fsplit ! $ w-fsplit ! $ w-move ! (1 ∷ []) $ w-feqL ! (λ same3-rows. w-move ! (1 ∷ []) $ w-fsplit ! $ w-fsplit ! $ w-move ! (1 ∷ []) $ w-feqL ! (λ same3-updates. w-move ! (1 ∷ []) $ w-fsplit ! $ w-fsplit ! $ w-move ! (1 ∷ []) $ w-feqL ! (λ same3-values. w-move ! (1 ∷ []) $ w-drop ! $
+          w-past ! $ w-past ! $ w-past ! $ w-past ! $ w-past ! $ w-past ! $ w-past ! $ w-past ! $ w-last ! (λ same3-permutation. w-move ! (1 ∷ []) $ w-last ! (λ same3-firsts. w-move ! (1 ∷ []) $ w-last ! (λ same3-starts. w-move ! (1 ∷ []) $ w-last ! (λ same3-groups. w-move ! (1 ∷ []) $ w-last ! (λ same3-tasks. w-move ! (1 ∷ []) $ w-last ! (λ same3-top. w-move ! (1 ∷ []) $ w-last ! (λ same3-words. w-move ! (1 ∷ []) $ w-last ! (λ same3-floats. w-move ! (1 ∷ []) $ w-last ! (λ same3-rows. w-move ! (1 ∷ []) $ w-last ! (λ same3-updates. w-move ! (1 ∷ []) $ w-last ! (λ same3-values. w-move ! (1 ∷ []) $ w-drop ! $
           w-move ! (11 ∷ []) $ w-split ! $ w-move ! (1 ∷ []) $ w-peeks ! T-Outcome.the-row (Is T-Outcome.the-row) (shows 𝓤 H A T-Outcome.the-row) u3 (r3 ∷ []) (λ is3. w-land ! (w-from ! (w-stop !)) (w-init ! 71 refl (LL.lawful T-Outcome.the-type L-Outcome.the-laws 𝓤 H A W .typed u3 _ is3 .0)) $
-          w-drop ! $ w-split ! $ w-move ! (1 ∷ []) $ w-split ! $ w-move ! (1 ∷ []) $ w-split ! $ w-move ! (1 ∷ []) $ w-split ! $ w-move ! (1 ∷ []) $ w-split ! $ w-lft-end ! tt $ w-move ! (0 ∷ 27 ∷ 16 ∷ []) $ use3 W (later (‵ (MutSlice (named 4) κ-permutation usize .own (ref-permutation γ-permutation (zs3 .1 .1 .1 .1 .1 .1 .1 .1 .0)) (sliceVal (b-permutation, o-permutation) (length permutation) ∷ [])) ⊛ ‵ (flft κ-permutation q-permutation))) (comes-back usize κ-permutation (ν3-8 ∷ []) q-permutation γ-permutation b-permutation o-permutation 𝓤 H A W (named 4) (named 4) permutation δ3-8 (zs3 .1 .1 .1 .1 .1 .1 .1 .1 .0) room-permutation same3-permutation) $ w-await ! tt $ w-split ! $
-          w-move ! (2 ∷ []) $ w-split ! $ w-lft-end ! tt $ w-move ! (0 ∷ 27 ∷ 17 ∷ []) $ use3 W (later (‵ (MutSlice (named 5) κ-firsts usize .own (ref-firsts γ-firsts (zs3 .1 .1 .1 .1 .1 .1 .1 .1 .1 .0)) (sliceVal (b-firsts, o-firsts) (length firsts) ∷ [])) ⊛ ‵ (flft κ-firsts q-firsts))) (comes-back usize κ-firsts (ν3-9 ∷ []) q-firsts γ-firsts b-firsts o-firsts 𝓤 H A W (named 5) (named 5) firsts δ3-9 (zs3 .1 .1 .1 .1 .1 .1 .1 .1 .1 .0) room-firsts same3-firsts) $ w-await ! tt $ w-split ! $
-          w-move ! (2 ∷ []) $ w-split ! $ w-lft-end ! tt $ w-move ! (0 ∷ 27 ∷ 18 ∷ []) $ use3 W (later (‵ (MutSlice (named 6) κ-starts usize .own (ref-starts γ-starts (zs3 .1 .1 .1 .1 .1 .1 .1 .1 .1 .1 .0)) (sliceVal (b-starts, o-starts) (length starts) ∷ [])) ⊛ ‵ (flft κ-starts q-starts))) (comes-back usize κ-starts (ν3-10 ∷ []) q-starts γ-starts b-starts o-starts 𝓤 H A W (named 6) (named 6) starts δ3-10 (zs3 .1 .1 .1 .1 .1 .1 .1 .1 .1 .1 .0) room-starts same3-starts) $ w-await ! tt $ w-split ! $
-          w-move ! (2 ∷ []) $ w-split ! $ w-lft-end ! tt $ w-move ! (0 ∷ 27 ∷ 19 ∷ []) $ use3 W (later (‵ (MutSlice (named 7) κ-groups usize .own (ref-groups γ-groups (zs3 .1 .1 .1 .1 .1 .1 .1 .1 .1 .1 .1 .0)) (sliceVal (b-groups, o-groups) (length groups) ∷ [])) ⊛ ‵ (flft κ-groups q-groups))) (comes-back usize κ-groups (ν3-11 ∷ []) q-groups γ-groups b-groups o-groups 𝓤 H A W (named 7) (named 7) groups δ3-11 (zs3 .1 .1 .1 .1 .1 .1 .1 .1 .1 .1 .1 .0) room-groups same3-groups) $ w-await ! tt $ w-split ! $
-          w-move ! (2 ∷ []) $ w-split ! $ w-lft-end ! tt $ w-move ! (0 ∷ 27 ∷ 20 ∷ []) $ use3 W (later (‵ (MutSlice (named 8) κ-tasks usize .own (ref-tasks γ-tasks (zs3 .1 .1 .1 .1 .1 .1 .1 .1 .1 .1 .1 .1 .0)) (sliceVal (b-tasks, o-tasks) (length tasks) ∷ [])) ⊛ ‵ (flft κ-tasks q-tasks))) (comes-back usize κ-tasks (ν3-12 ∷ []) q-tasks γ-tasks b-tasks o-tasks 𝓤 H A W (named 8) (named 8) tasks δ3-12 (zs3 .1 .1 .1 .1 .1 .1 .1 .1 .1 .1 .1 .1 .0) room-tasks same3-tasks) $ w-await ! tt $ w-split ! $
-          w-move ! (2 ∷ []) $ w-split ! $ w-lft-end ! tt $ w-move ! (0 ∷ 27 ∷ 21 ∷ []) $ use3 W (later (‵ (MutSlice (named 9) κ-top usize .own (ref-top γ-top (zs3 .1 .1 .1 .1 .1 .1 .1 .1 .1 .1 .1 .1 .1 .0)) (sliceVal (b-top, o-top) (length top) ∷ [])) ⊛ ‵ (flft κ-top q-top))) (comes-back usize κ-top (ν3-13 ∷ []) q-top γ-top b-top o-top 𝓤 H A W (named 9) (named 9) top δ3-13 (zs3 .1 .1 .1 .1 .1 .1 .1 .1 .1 .1 .1 .1 .1 .0) room-top same3-top) $ w-await ! tt $ w-split ! $
-          w-move ! (2 ∷ []) $ w-split ! $ w-lft-end ! tt $ w-move ! (0 ∷ 27 ∷ 22 ∷ []) $ use3 W (later (‵ (MutSlice (named 10) κ-words usize .own (ref-words γ-words (zs3 .1 .1 .1 .1 .1 .1 .1 .1 .1 .1 .1 .1 .1 .1 .0)) (sliceVal (b-words, o-words) (length words) ∷ [])) ⊛ ‵ (flft κ-words q-words))) (comes-back usize κ-words (ν3-14 ∷ []) q-words γ-words b-words o-words 𝓤 H A W (named 10) (named 10) words δ3-14 (zs3 .1 .1 .1 .1 .1 .1 .1 .1 .1 .1 .1 .1 .1 .1 .0) room-words same3-words) $ w-await ! tt $ w-split ! $
-          w-move ! (2 ∷ []) $ w-split ! $ w-lft-end ! tt $ w-move ! (0 ∷ 27 ∷ 23 ∷ []) $ use3 W (later (‵ (MutSlice (named 11) κ-floats f64 .own (ref-floats γ-floats (zs3 .1 .1 .1 .1 .1 .1 .1 .1 .1 .1 .1 .1 .1 .1 .1 .0)) (sliceVal (b-floats, o-floats) (length floats) ∷ [])) ⊛ ‵ (flft κ-floats q-floats))) (comes-back f64 κ-floats (ν3-15 ∷ []) q-floats γ-floats b-floats o-floats 𝓤 H A W (named 11) (named 11) floats δ3-15 (zs3 .1 .1 .1 .1 .1 .1 .1 .1 .1 .1 .1 .1 .1 .1 .1 .0) room-floats same3-floats) $ w-await ! tt $ w-split ! $
-          w-move ! (2 ∷ []) $ w-split ! $ w-lft-end ! tt $ w-move ! (0 ∷ 27 ∷ 24 ∷ []) $ use3 W (later (‵ (MutSlice (named 12) κ-rows usize .own (ref-rows γ-rows (zs3 .1 .1 .1 .1 .1 .1 .1 .1 .1 .1 .1 .1 .1 .1 .1 .1 .0)) (sliceVal (b-rows, o-rows) (length rows) ∷ [])) ⊛ ‵ (flft κ-rows q-rows))) (comes-back usize κ-rows (ν3-16 ∷ []) q-rows γ-rows b-rows o-rows 𝓤 H A W (named 12) (named 12) rows δ3-16 (zs3 .1 .1 .1 .1 .1 .1 .1 .1 .1 .1 .1 .1 .1 .1 .1 .1 .0) room-rows same3-rows) $ w-await ! tt $ w-split ! $
-          w-move ! (2 ∷ []) $ w-split ! $ w-lft-end ! tt $ w-move ! (0 ∷ 27 ∷ 25 ∷ []) $ use3 W (later (‵ (MutSlice (named 13) κ-updates T-Update.the-row .own (ref-updates γ-updates (zs3 .1 .1 .1 .1 .1 .1 .1 .1 .1 .1 .1 .1 .1 .1 .1 .1 .1 .0)) (sliceVal (b-updates, o-updates) (length updates) ∷ [])) ⊛ ‵ (flft κ-updates q-updates))) (comes-back T-Update.the-row κ-updates (ν3-17 ∷ []) q-updates γ-updates b-updates o-updates 𝓤 H A W (named 13) (named 13) updates δ3-17 (zs3 .1 .1 .1 .1 .1 .1 .1 .1 .1 .1 .1 .1 .1 .1 .1 .1 .1 .0) room-updates same3-updates) $ w-await ! tt $ w-split ! $
-          w-move ! (2 ∷ []) $ w-split ! $ w-lft-end ! tt $ w-move ! (0 ∷ 27 ∷ 26 ∷ []) $ use3 W (later (‵ (MutSlice (named 14) κ-values f64 .own (ref-values γ-values (zs3 .1 .1 .1 .1 .1 .1 .1 .1 .1 .1 .1 .1 .1 .1 .1 .1 .1 .1 .0)) (sliceVal (b-values, o-values) (length values) ∷ [])) ⊛ ‵ (flft κ-values q-values))) (comes-back f64 κ-values (ν3-18 ∷ []) q-values γ-values b-values o-values 𝓤 H A W (named 14) (named 14) values δ3-18 (zs3 .1 .1 .1 .1 .1 .1 .1 .1 .1 .1 .1 .1 .1 .1 .1 .1 .1 .1 .0) room-values same3-values) $ w-await ! tt $ w-split ! $
+          w-drop ! $ w-split ! $ w-move ! (1 ∷ []) $ w-split ! $ w-move ! (1 ∷ []) $ w-split ! $ w-move ! (1 ∷ []) $ w-split ! $ w-move ! (1 ∷ 26 ∷ 15 ∷ []) $ w-back ! tt usize κ-permutation q-permutation γ-permutation b-permutation o-permutation (named 4) (named 4) permutation (length permutation) refl ν3-8 δ3-8 (zs3 .1 .1 .1 .1 .1 .1 .1 .1 .0) room-permutation same3-permutation $
+          w-move ! (2 ∷ 26 ∷ 16 ∷ []) $ w-back ! tt usize κ-firsts q-firsts γ-firsts b-firsts o-firsts (named 5) (named 5) firsts (length firsts) refl ν3-9 δ3-9 (zs3 .1 .1 .1 .1 .1 .1 .1 .1 .1 .0) room-firsts same3-firsts $
+          w-written ! (‵ (MutSlice (named 5) κ-firsts usize .own (ref-firsts γ-firsts (zs3 .1 .1 .1 .1 .1 .1 .1 .1 .1 .0)) (sliceVal (b-firsts, o-firsts) (length firsts) ∷ [])) ∷ ‵ (flft κ-firsts q-firsts) ∷ (‵ (flft (ν3-10 ∷ []) fullShare) ⊛ ‵ (flft (ν3-11 ∷ []) fullShare) ⊛ ‵ (flft (ν3-12 ∷ []) fullShare) ⊛ ‵ (flft (ν3-13 ∷ []) fullShare) ⊛ ‵ (flft (ν3-14 ∷ []) fullShare) ⊛ ‵ (flft (ν3-15 ∷ []) fullShare) ⊛ ‵ (flft (ν3-16 ∷ []) fullShare) ⊛ ‵ (flft (ν3-17 ∷ []) fullShare) ⊛ ‵ (flft (ν3-18 ∷ []) fullShare) ⊛ ‵ ftrue) ∷ ‵ (MutSlice (named 4) κ-permutation usize .own (ref-permutation γ-permutation (zs3 .1 .1 .1 .1 .1 .1 .1 .1 .0)) (sliceVal (b-permutation, o-permutation) (length permutation) ∷ [])) ∷ ‵ (flft κ-permutation q-permutation) ∷ ‵ (flft κ-list q-list) ∷ ‵ (flft κ-input-values q-input-values) ∷ ‵ (flft κ-input-rows q-input-rows) ∷ ‵ (flft κ-input-starts q-input-starts) ∷ ‵ (finally f64 δ3-18 (zs3 .1 .1 .1 .1 .1 .1 .1 .1 .1 .1 .1 .1 .1 .1 .1 .1 .1 .1 .0)) ∷ ‵ (finally T-Update.the-row δ3-17 (zs3 .1 .1 .1 .1 .1 .1 .1 .1 .1 .1 .1 .1 .1 .1 .1 .1 .1 .0)) ∷ ‵ (finally usize δ3-16 (zs3 .1 .1 .1 .1 .1 .1 .1 .1 .1 .1 .1 .1 .1 .1 .1 .1 .0)) ∷ ‵ (finally f64 δ3-15 (zs3 .1 .1 .1 .1 .1 .1 .1 .1 .1 .1 .1 .1 .1 .1 .1 .0)) ∷ ‵ (finally usize δ3-14 (zs3 .1 .1 .1 .1 .1 .1 .1 .1 .1 .1 .1 .1 .1 .1 .0)) ∷ ‵ (finally usize δ3-13 (zs3 .1 .1 .1 .1 .1 .1 .1 .1 .1 .1 .1 .1 .1 .0)) ∷ ‵ (finally usize δ3-12 (zs3 .1 .1 .1 .1 .1 .1 .1 .1 .1 .1 .1 .1 .0)) ∷ ‵ (finally usize δ3-11 (zs3 .1 .1 .1 .1 .1 .1 .1 .1 .1 .1 .1 .0)) ∷ ‵ (finally usize δ3-10 (zs3 .1 .1 .1 .1 .1 .1 .1 .1 .1 .1 .0)) ∷ ‵ (LentAgain f64 κ-values (ν3-18 ∷ []) q-values γ-values b-values o-values δ3-18 values) ∷ ‵ (LentAgain T-Update.the-row κ-updates (ν3-17 ∷ []) q-updates γ-updates b-updates o-updates δ3-17 updates) ∷ ‵ (LentAgain usize κ-rows (ν3-16 ∷ []) q-rows γ-rows b-rows o-rows δ3-16 rows) ∷ ‵ (LentAgain f64 κ-floats (ν3-15 ∷ []) q-floats γ-floats b-floats o-floats δ3-15 floats) ∷ ‵ (LentAgain usize κ-words (ν3-14 ∷ []) q-words γ-words b-words o-words δ3-14 words) ∷ ‵ (LentAgain usize κ-top (ν3-13 ∷ []) q-top γ-top b-top o-top δ3-13 top) ∷ ‵ (LentAgain usize κ-tasks (ν3-12 ∷ []) q-tasks γ-tasks b-tasks o-tasks δ3-12 tasks) ∷ ‵ (LentAgain usize κ-groups (ν3-11 ∷ []) q-groups γ-groups b-groups o-groups δ3-11 groups) ∷ ‵ (LentAgain usize κ-starts (ν3-10 ∷ []) q-starts γ-starts b-starts o-starts δ3-10 starts) ∷ ‵ (ShrSlice (named 3) κ-list usize .own (ref-list γ-list «list») (sliceVal (b-list, o-list) (length «list») ∷ [])) ∷ ‵ (ShrSlice (named 2) κ-input-values f64 .own (ref-input-values γ-input-values input-values) (sliceVal (b-input-values, o-input-values) (length input-values) ∷ [])) ∷ ‵ (ShrSlice (named 1) κ-input-rows usize .own (ref-input-rows γ-input-rows input-rows) (sliceVal (b-input-rows, o-input-rows) (length input-rows) ∷ [])) ∷ ‵ (ShrSlice (named 0) κ-input-starts usize .own (ref-input-starts γ-input-starts input-starts) (sliceVal (b-input-starts, o-input-starts) (length input-starts) ∷ [])) ∷ raw (Packed 𝓤 H A (‵ (MutRef (named 15) κ-results (Array usize 12) .own (ref-results γ-results results) (s-results ∷ [])) ∷ ‵ (flft κ-results q-results) ∷ ‵ (fat fullShare ty6 l6 0 (vint w64 order)) ∷ ‵ (fat fullShare ty8 l8 0 (vint w64 stop)) ∷ ‵ (fat fullShare ty20 l20 0 s-results) ∷ raw (Packed 𝓤 H A spare4) ∷ raw (Packed 𝓤 H A dying) ∷ [])) ∷ ‵ (fat fullShare ty24 l24 0 (vptr b-permutation o-permutation)) ∷ ‵ (fat fullShare ty25 l25 0 s-permutation) ∷ ‵ (fat fullShare ty26 l26 0 (vptr b-firsts o-firsts)) ∷ ‵ (fat fullShare ty27 l27 0 s-firsts) ∷ ‵ (fat fullShare ty28 l28 0 (vptr b-starts o-starts)) ∷ ‵ (fat fullShare ty29 l29 0 s-starts) ∷ ‵ (fat fullShare ty30 l30 0 (vptr b-groups o-groups)) ∷ ‵ (fat fullShare ty31 l31 0 s-groups) ∷ ‵ (fat fullShare ty32 l32 0 (vptr b-tasks o-tasks)) ∷ ‵ (fat fullShare ty33 l33 0 s-tasks) ∷ ‵ (fat fullShare ty34 l34 0 (vptr b-top o-top)) ∷ ‵ (fat fullShare ty35 l35 0 s-top) ∷ ‵ (fat fullShare ty36 l36 0 (vptr b-words o-words)) ∷ ‵ (fat fullShare ty37 l37 0 s-words) ∷ ‵ (fat fullShare ty38 l38 0 (vptr b-floats o-floats)) ∷ ‵ (fat fullShare ty39 l39 0 s-floats) ∷ ‵ (fat fullShare ty40 l40 0 (vptr b-rows o-rows)) ∷ ‵ (fat fullShare ty41 l41 0 s-rows) ∷ ‵ (fat fullShare ty42 l42 0 (vptr b-updates o-updates)) ∷ ‵ (fat fullShare ty43 l43 0 s-updates) ∷ ‵ (fat fullShare ty44 l44 0 (vptr b-values o-values)) ∷ ‵ (fat fullShare ty45 l45 0 s-values) ∷ ‵ (froom ty0 l0 0) ∷ ‵ (fat fullShare ty1 l1 0 (vint w64 n)) ∷ ‵ (fat fullShare ty2 l2 0 s-input-starts) ∷ ‵ (fat fullShare ty3 l3 0 s-input-rows) ∷ ‵ (fat fullShare ty4 l4 0 s-input-values) ∷ ‵ (fat fullShare ty5 l5 0 (vint w64 cap)) ∷ ‵ (fat fullShare ty7 l7 0 s-list) ∷ ‵ (fat fullShare ty9 l9 0 s-permutation) ∷ ‵ (fat fullShare ty10 l10 0 s-firsts) ∷ ‵ (fat fullShare ty11 l11 0 s-starts) ∷ ‵ (fat fullShare ty12 l12 0 s-groups) ∷ ‵ (fat fullShare ty13 l13 0 s-tasks) ∷ ‵ (fat fullShare ty14 l14 0 s-top) ∷ ‵ (fat fullShare ty15 l15 0 s-words) ∷ ‵ (fat fullShare ty16 l16 0 s-floats) ∷ ‵ (fat fullShare ty17 l17 0 s-rows) ∷ ‵ (fat fullShare ty18 l18 0 s-updates) ∷ ‵ (fat fullShare ty19 l19 0 s-values) ∷ ‵ (fat fullShare ty21 l21 0 r1) ∷ ‵ (fat fullShare ty22 l22 0 r2) ∷ ‵ (fat fullShare ty23 l23 0 r3) ∷ []) $
+          w-move ! (2 ∷ 26 ∷ 17 ∷ []) $ w-back ! tt usize κ-starts q-starts γ-starts b-starts o-starts (named 6) (named 6) starts (length starts) refl ν3-10 δ3-10 (zs3 .1 .1 .1 .1 .1 .1 .1 .1 .1 .1 .0) room-starts same3-starts $
+          w-move ! (2 ∷ 26 ∷ 18 ∷ []) $ w-back ! tt usize κ-groups q-groups γ-groups b-groups o-groups (named 7) (named 7) groups (length groups) refl ν3-11 δ3-11 (zs3 .1 .1 .1 .1 .1 .1 .1 .1 .1 .1 .1 .0) room-groups same3-groups $
+          w-move ! (2 ∷ 26 ∷ 19 ∷ []) $ w-back ! tt usize κ-tasks q-tasks γ-tasks b-tasks o-tasks (named 8) (named 8) tasks (length tasks) refl ν3-12 δ3-12 (zs3 .1 .1 .1 .1 .1 .1 .1 .1 .1 .1 .1 .1 .0) room-tasks same3-tasks $
+          w-written ! (‵ (MutSlice (named 8) κ-tasks usize .own (ref-tasks γ-tasks (zs3 .1 .1 .1 .1 .1 .1 .1 .1 .1 .1 .1 .1 .0)) (sliceVal (b-tasks, o-tasks) (length tasks) ∷ [])) ∷ ‵ (flft κ-tasks q-tasks) ∷ (‵ (flft (ν3-13 ∷ []) fullShare) ⊛ ‵ (flft (ν3-14 ∷ []) fullShare) ⊛ ‵ (flft (ν3-15 ∷ []) fullShare) ⊛ ‵ (flft (ν3-16 ∷ []) fullShare) ⊛ ‵ (flft (ν3-17 ∷ []) fullShare) ⊛ ‵ (flft (ν3-18 ∷ []) fullShare) ⊛ ‵ ftrue) ∷ ‵ (MutSlice (named 7) κ-groups usize .own (ref-groups γ-groups (zs3 .1 .1 .1 .1 .1 .1 .1 .1 .1 .1 .1 .0)) (sliceVal (b-groups, o-groups) (length groups) ∷ [])) ∷ ‵ (flft κ-groups q-groups) ∷ ‵ (MutSlice (named 6) κ-starts usize .own (ref-starts γ-starts (zs3 .1 .1 .1 .1 .1 .1 .1 .1 .1 .1 .0)) (sliceVal (b-starts, o-starts) (length starts) ∷ [])) ∷ ‵ (flft κ-starts q-starts) ∷ ‵ (MutSlice (named 5) κ-firsts usize .own (ref-firsts γ-firsts (zs3 .1 .1 .1 .1 .1 .1 .1 .1 .1 .0)) (sliceVal (b-firsts, o-firsts) (length firsts) ∷ [])) ∷ ‵ (flft κ-firsts q-firsts) ∷ ‵ (MutSlice (named 4) κ-permutation usize .own (ref-permutation γ-permutation (zs3 .1 .1 .1 .1 .1 .1 .1 .1 .0)) (sliceVal (b-permutation, o-permutation) (length permutation) ∷ [])) ∷ ‵ (flft κ-permutation q-permutation) ∷ ‵ (flft κ-list q-list) ∷ ‵ (flft κ-input-values q-input-values) ∷ ‵ (flft κ-input-rows q-input-rows) ∷ ‵ (flft κ-input-starts q-input-starts) ∷ ‵ (finally f64 δ3-18 (zs3 .1 .1 .1 .1 .1 .1 .1 .1 .1 .1 .1 .1 .1 .1 .1 .1 .1 .1 .0)) ∷ ‵ (finally T-Update.the-row δ3-17 (zs3 .1 .1 .1 .1 .1 .1 .1 .1 .1 .1 .1 .1 .1 .1 .1 .1 .1 .0)) ∷ ‵ (finally usize δ3-16 (zs3 .1 .1 .1 .1 .1 .1 .1 .1 .1 .1 .1 .1 .1 .1 .1 .1 .0)) ∷ ‵ (finally f64 δ3-15 (zs3 .1 .1 .1 .1 .1 .1 .1 .1 .1 .1 .1 .1 .1 .1 .1 .0)) ∷ ‵ (finally usize δ3-14 (zs3 .1 .1 .1 .1 .1 .1 .1 .1 .1 .1 .1 .1 .1 .1 .0)) ∷ ‵ (finally usize δ3-13 (zs3 .1 .1 .1 .1 .1 .1 .1 .1 .1 .1 .1 .1 .1 .0)) ∷ ‵ (LentAgain f64 κ-values (ν3-18 ∷ []) q-values γ-values b-values o-values δ3-18 values) ∷ ‵ (LentAgain T-Update.the-row κ-updates (ν3-17 ∷ []) q-updates γ-updates b-updates o-updates δ3-17 updates) ∷ ‵ (LentAgain usize κ-rows (ν3-16 ∷ []) q-rows γ-rows b-rows o-rows δ3-16 rows) ∷ ‵ (LentAgain f64 κ-floats (ν3-15 ∷ []) q-floats γ-floats b-floats o-floats δ3-15 floats) ∷ ‵ (LentAgain usize κ-words (ν3-14 ∷ []) q-words γ-words b-words o-words δ3-14 words) ∷ ‵ (LentAgain usize κ-top (ν3-13 ∷ []) q-top γ-top b-top o-top δ3-13 top) ∷ ‵ (ShrSlice (named 3) κ-list usize .own (ref-list γ-list «list») (sliceVal (b-list, o-list) (length «list») ∷ [])) ∷ ‵ (ShrSlice (named 2) κ-input-values f64 .own (ref-input-values γ-input-values input-values) (sliceVal (b-input-values, o-input-values) (length input-values) ∷ [])) ∷ ‵ (ShrSlice (named 1) κ-input-rows usize .own (ref-input-rows γ-input-rows input-rows) (sliceVal (b-input-rows, o-input-rows) (length input-rows) ∷ [])) ∷ ‵ (ShrSlice (named 0) κ-input-starts usize .own (ref-input-starts γ-input-starts input-starts) (sliceVal (b-input-starts, o-input-starts) (length input-starts) ∷ [])) ∷ raw (Packed 𝓤 H A (‵ (MutRef (named 15) κ-results (Array usize 12) .own (ref-results γ-results results) (s-results ∷ [])) ∷ ‵ (flft κ-results q-results) ∷ ‵ (fat fullShare ty6 l6 0 (vint w64 order)) ∷ ‵ (fat fullShare ty8 l8 0 (vint w64 stop)) ∷ ‵ (fat fullShare ty20 l20 0 s-results) ∷ raw (Packed 𝓤 H A spare4) ∷ raw (Packed 𝓤 H A dying) ∷ [])) ∷ ‵ (fat fullShare ty24 l24 0 (vptr b-permutation o-permutation)) ∷ ‵ (fat fullShare ty25 l25 0 s-permutation) ∷ ‵ (fat fullShare ty26 l26 0 (vptr b-firsts o-firsts)) ∷ ‵ (fat fullShare ty27 l27 0 s-firsts) ∷ ‵ (fat fullShare ty28 l28 0 (vptr b-starts o-starts)) ∷ ‵ (fat fullShare ty29 l29 0 s-starts) ∷ ‵ (fat fullShare ty30 l30 0 (vptr b-groups o-groups)) ∷ ‵ (fat fullShare ty31 l31 0 s-groups) ∷ ‵ (fat fullShare ty32 l32 0 (vptr b-tasks o-tasks)) ∷ ‵ (fat fullShare ty33 l33 0 s-tasks) ∷ ‵ (fat fullShare ty34 l34 0 (vptr b-top o-top)) ∷ ‵ (fat fullShare ty35 l35 0 s-top) ∷ ‵ (fat fullShare ty36 l36 0 (vptr b-words o-words)) ∷ ‵ (fat fullShare ty37 l37 0 s-words) ∷ ‵ (fat fullShare ty38 l38 0 (vptr b-floats o-floats)) ∷ ‵ (fat fullShare ty39 l39 0 s-floats) ∷ ‵ (fat fullShare ty40 l40 0 (vptr b-rows o-rows)) ∷ ‵ (fat fullShare ty41 l41 0 s-rows) ∷ ‵ (fat fullShare ty42 l42 0 (vptr b-updates o-updates)) ∷ ‵ (fat fullShare ty43 l43 0 s-updates) ∷ ‵ (fat fullShare ty44 l44 0 (vptr b-values o-values)) ∷ ‵ (fat fullShare ty45 l45 0 s-values) ∷ ‵ (froom ty0 l0 0) ∷ ‵ (fat fullShare ty1 l1 0 (vint w64 n)) ∷ ‵ (fat fullShare ty2 l2 0 s-input-starts) ∷ ‵ (fat fullShare ty3 l3 0 s-input-rows) ∷ ‵ (fat fullShare ty4 l4 0 s-input-values) ∷ ‵ (fat fullShare ty5 l5 0 (vint w64 cap)) ∷ ‵ (fat fullShare ty7 l7 0 s-list) ∷ ‵ (fat fullShare ty9 l9 0 s-permutation) ∷ ‵ (fat fullShare ty10 l10 0 s-firsts) ∷ ‵ (fat fullShare ty11 l11 0 s-starts) ∷ ‵ (fat fullShare ty12 l12 0 s-groups) ∷ ‵ (fat fullShare ty13 l13 0 s-tasks) ∷ ‵ (fat fullShare ty14 l14 0 s-top) ∷ ‵ (fat fullShare ty15 l15 0 s-words) ∷ ‵ (fat fullShare ty16 l16 0 s-floats) ∷ ‵ (fat fullShare ty17 l17 0 s-rows) ∷ ‵ (fat fullShare ty18 l18 0 s-updates) ∷ ‵ (fat fullShare ty19 l19 0 s-values) ∷ ‵ (fat fullShare ty21 l21 0 r1) ∷ ‵ (fat fullShare ty22 l22 0 r2) ∷ ‵ (fat fullShare ty23 l23 0 r3) ∷ []) $
+          w-move ! (2 ∷ 26 ∷ 20 ∷ []) $ w-back ! tt usize κ-top q-top γ-top b-top o-top (named 9) (named 9) top (length top) refl ν3-13 δ3-13 (zs3 .1 .1 .1 .1 .1 .1 .1 .1 .1 .1 .1 .1 .1 .0) room-top same3-top $
+          w-move ! (2 ∷ 26 ∷ 21 ∷ []) $ w-back ! tt usize κ-words q-words γ-words b-words o-words (named 10) (named 10) words (length words) refl ν3-14 δ3-14 (zs3 .1 .1 .1 .1 .1 .1 .1 .1 .1 .1 .1 .1 .1 .1 .0) room-words same3-words $
+          w-move ! (2 ∷ 26 ∷ 22 ∷ []) $ w-back ! tt f64 κ-floats q-floats γ-floats b-floats o-floats (named 11) (named 11) floats (length floats) refl ν3-15 δ3-15 (zs3 .1 .1 .1 .1 .1 .1 .1 .1 .1 .1 .1 .1 .1 .1 .1 .0) room-floats same3-floats $
+          w-written ! (‵ (MutSlice (named 11) κ-floats f64 .own (ref-floats γ-floats (zs3 .1 .1 .1 .1 .1 .1 .1 .1 .1 .1 .1 .1 .1 .1 .1 .0)) (sliceVal (b-floats, o-floats) (length floats) ∷ [])) ∷ ‵ (flft κ-floats q-floats) ∷ (‵ (flft (ν3-16 ∷ []) fullShare) ⊛ ‵ (flft (ν3-17 ∷ []) fullShare) ⊛ ‵ (flft (ν3-18 ∷ []) fullShare) ⊛ ‵ ftrue) ∷ ‵ (MutSlice (named 10) κ-words usize .own (ref-words γ-words (zs3 .1 .1 .1 .1 .1 .1 .1 .1 .1 .1 .1 .1 .1 .1 .0)) (sliceVal (b-words, o-words) (length words) ∷ [])) ∷ ‵ (flft κ-words q-words) ∷ ‵ (MutSlice (named 9) κ-top usize .own (ref-top γ-top (zs3 .1 .1 .1 .1 .1 .1 .1 .1 .1 .1 .1 .1 .1 .0)) (sliceVal (b-top, o-top) (length top) ∷ [])) ∷ ‵ (flft κ-top q-top) ∷ ‵ (MutSlice (named 8) κ-tasks usize .own (ref-tasks γ-tasks (zs3 .1 .1 .1 .1 .1 .1 .1 .1 .1 .1 .1 .1 .0)) (sliceVal (b-tasks, o-tasks) (length tasks) ∷ [])) ∷ ‵ (flft κ-tasks q-tasks) ∷ ‵ (MutSlice (named 7) κ-groups usize .own (ref-groups γ-groups (zs3 .1 .1 .1 .1 .1 .1 .1 .1 .1 .1 .1 .0)) (sliceVal (b-groups, o-groups) (length groups) ∷ [])) ∷ ‵ (flft κ-groups q-groups) ∷ ‵ (MutSlice (named 6) κ-starts usize .own (ref-starts γ-starts (zs3 .1 .1 .1 .1 .1 .1 .1 .1 .1 .1 .0)) (sliceVal (b-starts, o-starts) (length starts) ∷ [])) ∷ ‵ (flft κ-starts q-starts) ∷ ‵ (MutSlice (named 5) κ-firsts usize .own (ref-firsts γ-firsts (zs3 .1 .1 .1 .1 .1 .1 .1 .1 .1 .0)) (sliceVal (b-firsts, o-firsts) (length firsts) ∷ [])) ∷ ‵ (flft κ-firsts q-firsts) ∷ ‵ (MutSlice (named 4) κ-permutation usize .own (ref-permutation γ-permutation (zs3 .1 .1 .1 .1 .1 .1 .1 .1 .0)) (sliceVal (b-permutation, o-permutation) (length permutation) ∷ [])) ∷ ‵ (flft κ-permutation q-permutation) ∷ ‵ (flft κ-list q-list) ∷ ‵ (flft κ-input-values q-input-values) ∷ ‵ (flft κ-input-rows q-input-rows) ∷ ‵ (flft κ-input-starts q-input-starts) ∷ ‵ (finally f64 δ3-18 (zs3 .1 .1 .1 .1 .1 .1 .1 .1 .1 .1 .1 .1 .1 .1 .1 .1 .1 .1 .0)) ∷ ‵ (finally T-Update.the-row δ3-17 (zs3 .1 .1 .1 .1 .1 .1 .1 .1 .1 .1 .1 .1 .1 .1 .1 .1 .1 .0)) ∷ ‵ (finally usize δ3-16 (zs3 .1 .1 .1 .1 .1 .1 .1 .1 .1 .1 .1 .1 .1 .1 .1 .1 .0)) ∷ ‵ (LentAgain f64 κ-values (ν3-18 ∷ []) q-values γ-values b-values o-values δ3-18 values) ∷ ‵ (LentAgain T-Update.the-row κ-updates (ν3-17 ∷ []) q-updates γ-updates b-updates o-updates δ3-17 updates) ∷ ‵ (LentAgain usize κ-rows (ν3-16 ∷ []) q-rows γ-rows b-rows o-rows δ3-16 rows) ∷ ‵ (ShrSlice (named 3) κ-list usize .own (ref-list γ-list «list») (sliceVal (b-list, o-list) (length «list») ∷ [])) ∷ ‵ (ShrSlice (named 2) κ-input-values f64 .own (ref-input-values γ-input-values input-values) (sliceVal (b-input-values, o-input-values) (length input-values) ∷ [])) ∷ ‵ (ShrSlice (named 1) κ-input-rows usize .own (ref-input-rows γ-input-rows input-rows) (sliceVal (b-input-rows, o-input-rows) (length input-rows) ∷ [])) ∷ ‵ (ShrSlice (named 0) κ-input-starts usize .own (ref-input-starts γ-input-starts input-starts) (sliceVal (b-input-starts, o-input-starts) (length input-starts) ∷ [])) ∷ raw (Packed 𝓤 H A (‵ (MutRef (named 15) κ-results (Array usize 12) .own (ref-results γ-results results) (s-results ∷ [])) ∷ ‵ (flft κ-results q-results) ∷ ‵ (fat fullShare ty6 l6 0 (vint w64 order)) ∷ ‵ (fat fullShare ty8 l8 0 (vint w64 stop)) ∷ ‵ (fat fullShare ty20 l20 0 s-results) ∷ raw (Packed 𝓤 H A spare4) ∷ raw (Packed 𝓤 H A dying) ∷ [])) ∷ ‵ (fat fullShare ty24 l24 0 (vptr b-permutation o-permutation)) ∷ ‵ (fat fullShare ty25 l25 0 s-permutation) ∷ ‵ (fat fullShare ty26 l26 0 (vptr b-firsts o-firsts)) ∷ ‵ (fat fullShare ty27 l27 0 s-firsts) ∷ ‵ (fat fullShare ty28 l28 0 (vptr b-starts o-starts)) ∷ ‵ (fat fullShare ty29 l29 0 s-starts) ∷ ‵ (fat fullShare ty30 l30 0 (vptr b-groups o-groups)) ∷ ‵ (fat fullShare ty31 l31 0 s-groups) ∷ ‵ (fat fullShare ty32 l32 0 (vptr b-tasks o-tasks)) ∷ ‵ (fat fullShare ty33 l33 0 s-tasks) ∷ ‵ (fat fullShare ty34 l34 0 (vptr b-top o-top)) ∷ ‵ (fat fullShare ty35 l35 0 s-top) ∷ ‵ (fat fullShare ty36 l36 0 (vptr b-words o-words)) ∷ ‵ (fat fullShare ty37 l37 0 s-words) ∷ ‵ (fat fullShare ty38 l38 0 (vptr b-floats o-floats)) ∷ ‵ (fat fullShare ty39 l39 0 s-floats) ∷ ‵ (fat fullShare ty40 l40 0 (vptr b-rows o-rows)) ∷ ‵ (fat fullShare ty41 l41 0 s-rows) ∷ ‵ (fat fullShare ty42 l42 0 (vptr b-updates o-updates)) ∷ ‵ (fat fullShare ty43 l43 0 s-updates) ∷ ‵ (fat fullShare ty44 l44 0 (vptr b-values o-values)) ∷ ‵ (fat fullShare ty45 l45 0 s-values) ∷ ‵ (froom ty0 l0 0) ∷ ‵ (fat fullShare ty1 l1 0 (vint w64 n)) ∷ ‵ (fat fullShare ty2 l2 0 s-input-starts) ∷ ‵ (fat fullShare ty3 l3 0 s-input-rows) ∷ ‵ (fat fullShare ty4 l4 0 s-input-values) ∷ ‵ (fat fullShare ty5 l5 0 (vint w64 cap)) ∷ ‵ (fat fullShare ty7 l7 0 s-list) ∷ ‵ (fat fullShare ty9 l9 0 s-permutation) ∷ ‵ (fat fullShare ty10 l10 0 s-firsts) ∷ ‵ (fat fullShare ty11 l11 0 s-starts) ∷ ‵ (fat fullShare ty12 l12 0 s-groups) ∷ ‵ (fat fullShare ty13 l13 0 s-tasks) ∷ ‵ (fat fullShare ty14 l14 0 s-top) ∷ ‵ (fat fullShare ty15 l15 0 s-words) ∷ ‵ (fat fullShare ty16 l16 0 s-floats) ∷ ‵ (fat fullShare ty17 l17 0 s-rows) ∷ ‵ (fat fullShare ty18 l18 0 s-updates) ∷ ‵ (fat fullShare ty19 l19 0 s-values) ∷ ‵ (fat fullShare ty21 l21 0 r1) ∷ ‵ (fat fullShare ty22 l22 0 r2) ∷ ‵ (fat fullShare ty23 l23 0 r3) ∷ []) $
+          w-move ! (2 ∷ 26 ∷ 23 ∷ []) $ w-back ! tt usize κ-rows q-rows γ-rows b-rows o-rows (named 12) (named 12) rows (length rows) refl ν3-16 δ3-16 (zs3 .1 .1 .1 .1 .1 .1 .1 .1 .1 .1 .1 .1 .1 .1 .1 .1 .0) room-rows same3-rows $
+          w-move ! (2 ∷ 26 ∷ 24 ∷ []) $ w-back ! tt T-Update.the-row κ-updates q-updates γ-updates b-updates o-updates (named 13) (named 13) updates (length updates) refl ν3-17 δ3-17 (zs3 .1 .1 .1 .1 .1 .1 .1 .1 .1 .1 .1 .1 .1 .1 .1 .1 .1 .0) room-updates same3-updates $
+          w-move ! (2 ∷ 26 ∷ 25 ∷ []) $ w-back ! tt f64 κ-values q-values γ-values b-values o-values (named 14) (named 14) values (length values) refl ν3-18 δ3-18 (zs3 .1 .1 .1 .1 .1 .1 .1 .1 .1 .1 .1 .1 .1 .1 .1 .1 .1 .1 .0) room-values same3-values $
+          w-written ! (‵ (MutSlice (named 14) κ-values f64 .own (ref-values γ-values (zs3 .1 .1 .1 .1 .1 .1 .1 .1 .1 .1 .1 .1 .1 .1 .1 .1 .1 .1 .0)) (sliceVal (b-values, o-values) (length values) ∷ [])) ∷ ‵ (flft κ-values q-values) ∷ (‵ ftrue) ∷ ‵ (MutSlice (named 13) κ-updates T-Update.the-row .own (ref-updates γ-updates (zs3 .1 .1 .1 .1 .1 .1 .1 .1 .1 .1 .1 .1 .1 .1 .1 .1 .1 .0)) (sliceVal (b-updates, o-updates) (length updates) ∷ [])) ∷ ‵ (flft κ-updates q-updates) ∷ ‵ (MutSlice (named 12) κ-rows usize .own (ref-rows γ-rows (zs3 .1 .1 .1 .1 .1 .1 .1 .1 .1 .1 .1 .1 .1 .1 .1 .1 .0)) (sliceVal (b-rows, o-rows) (length rows) ∷ [])) ∷ ‵ (flft κ-rows q-rows) ∷ ‵ (MutSlice (named 11) κ-floats f64 .own (ref-floats γ-floats (zs3 .1 .1 .1 .1 .1 .1 .1 .1 .1 .1 .1 .1 .1 .1 .1 .0)) (sliceVal (b-floats, o-floats) (length floats) ∷ [])) ∷ ‵ (flft κ-floats q-floats) ∷ ‵ (MutSlice (named 10) κ-words usize .own (ref-words γ-words (zs3 .1 .1 .1 .1 .1 .1 .1 .1 .1 .1 .1 .1 .1 .1 .0)) (sliceVal (b-words, o-words) (length words) ∷ [])) ∷ ‵ (flft κ-words q-words) ∷ ‵ (MutSlice (named 9) κ-top usize .own (ref-top γ-top (zs3 .1 .1 .1 .1 .1 .1 .1 .1 .1 .1 .1 .1 .1 .0)) (sliceVal (b-top, o-top) (length top) ∷ [])) ∷ ‵ (flft κ-top q-top) ∷ ‵ (MutSlice (named 8) κ-tasks usize .own (ref-tasks γ-tasks (zs3 .1 .1 .1 .1 .1 .1 .1 .1 .1 .1 .1 .1 .0)) (sliceVal (b-tasks, o-tasks) (length tasks) ∷ [])) ∷ ‵ (flft κ-tasks q-tasks) ∷ ‵ (MutSlice (named 7) κ-groups usize .own (ref-groups γ-groups (zs3 .1 .1 .1 .1 .1 .1 .1 .1 .1 .1 .1 .0)) (sliceVal (b-groups, o-groups) (length groups) ∷ [])) ∷ ‵ (flft κ-groups q-groups) ∷ ‵ (MutSlice (named 6) κ-starts usize .own (ref-starts γ-starts (zs3 .1 .1 .1 .1 .1 .1 .1 .1 .1 .1 .0)) (sliceVal (b-starts, o-starts) (length starts) ∷ [])) ∷ ‵ (flft κ-starts q-starts) ∷ ‵ (MutSlice (named 5) κ-firsts usize .own (ref-firsts γ-firsts (zs3 .1 .1 .1 .1 .1 .1 .1 .1 .1 .0)) (sliceVal (b-firsts, o-firsts) (length firsts) ∷ [])) ∷ ‵ (flft κ-firsts q-firsts) ∷ ‵ (MutSlice (named 4) κ-permutation usize .own (ref-permutation γ-permutation (zs3 .1 .1 .1 .1 .1 .1 .1 .1 .0)) (sliceVal (b-permutation, o-permutation) (length permutation) ∷ [])) ∷ ‵ (flft κ-permutation q-permutation) ∷ ‵ (flft κ-list q-list) ∷ ‵ (flft κ-input-values q-input-values) ∷ ‵ (flft κ-input-rows q-input-rows) ∷ ‵ (flft κ-input-starts q-input-starts) ∷ ‵ (ShrSlice (named 3) κ-list usize .own (ref-list γ-list «list») (sliceVal (b-list, o-list) (length «list») ∷ [])) ∷ ‵ (ShrSlice (named 2) κ-input-values f64 .own (ref-input-values γ-input-values input-values) (sliceVal (b-input-values, o-input-values) (length input-values) ∷ [])) ∷ ‵ (ShrSlice (named 1) κ-input-rows usize .own (ref-input-rows γ-input-rows input-rows) (sliceVal (b-input-rows, o-input-rows) (length input-rows) ∷ [])) ∷ ‵ (ShrSlice (named 0) κ-input-starts usize .own (ref-input-starts γ-input-starts input-starts) (sliceVal (b-input-starts, o-input-starts) (length input-starts) ∷ [])) ∷ raw (Packed 𝓤 H A (‵ (MutRef (named 15) κ-results (Array usize 12) .own (ref-results γ-results results) (s-results ∷ [])) ∷ ‵ (flft κ-results q-results) ∷ ‵ (fat fullShare ty6 l6 0 (vint w64 order)) ∷ ‵ (fat fullShare ty8 l8 0 (vint w64 stop)) ∷ ‵ (fat fullShare ty20 l20 0 s-results) ∷ raw (Packed 𝓤 H A spare4) ∷ raw (Packed 𝓤 H A dying) ∷ [])) ∷ ‵ (fat fullShare ty24 l24 0 (vptr b-permutation o-permutation)) ∷ ‵ (fat fullShare ty25 l25 0 s-permutation) ∷ ‵ (fat fullShare ty26 l26 0 (vptr b-firsts o-firsts)) ∷ ‵ (fat fullShare ty27 l27 0 s-firsts) ∷ ‵ (fat fullShare ty28 l28 0 (vptr b-starts o-starts)) ∷ ‵ (fat fullShare ty29 l29 0 s-starts) ∷ ‵ (fat fullShare ty30 l30 0 (vptr b-groups o-groups)) ∷ ‵ (fat fullShare ty31 l31 0 s-groups) ∷ ‵ (fat fullShare ty32 l32 0 (vptr b-tasks o-tasks)) ∷ ‵ (fat fullShare ty33 l33 0 s-tasks) ∷ ‵ (fat fullShare ty34 l34 0 (vptr b-top o-top)) ∷ ‵ (fat fullShare ty35 l35 0 s-top) ∷ ‵ (fat fullShare ty36 l36 0 (vptr b-words o-words)) ∷ ‵ (fat fullShare ty37 l37 0 s-words) ∷ ‵ (fat fullShare ty38 l38 0 (vptr b-floats o-floats)) ∷ ‵ (fat fullShare ty39 l39 0 s-floats) ∷ ‵ (fat fullShare ty40 l40 0 (vptr b-rows o-rows)) ∷ ‵ (fat fullShare ty41 l41 0 s-rows) ∷ ‵ (fat fullShare ty42 l42 0 (vptr b-updates o-updates)) ∷ ‵ (fat fullShare ty43 l43 0 s-updates) ∷ ‵ (fat fullShare ty44 l44 0 (vptr b-values o-values)) ∷ ‵ (fat fullShare ty45 l45 0 s-values) ∷ ‵ (froom ty0 l0 0) ∷ ‵ (fat fullShare ty1 l1 0 (vint w64 n)) ∷ ‵ (fat fullShare ty2 l2 0 s-input-starts) ∷ ‵ (fat fullShare ty3 l3 0 s-input-rows) ∷ ‵ (fat fullShare ty4 l4 0 s-input-values) ∷ ‵ (fat fullShare ty5 l5 0 (vint w64 cap)) ∷ ‵ (fat fullShare ty7 l7 0 s-list) ∷ ‵ (fat fullShare ty9 l9 0 s-permutation) ∷ ‵ (fat fullShare ty10 l10 0 s-firsts) ∷ ‵ (fat fullShare ty11 l11 0 s-starts) ∷ ‵ (fat fullShare ty12 l12 0 s-groups) ∷ ‵ (fat fullShare ty13 l13 0 s-tasks) ∷ ‵ (fat fullShare ty14 l14 0 s-top) ∷ ‵ (fat fullShare ty15 l15 0 s-words) ∷ ‵ (fat fullShare ty16 l16 0 s-floats) ∷ ‵ (fat fullShare ty17 l17 0 s-rows) ∷ ‵ (fat fullShare ty18 l18 0 s-updates) ∷ ‵ (fat fullShare ty19 l19 0 s-values) ∷ ‵ (fat fullShare ty21 l21 0 r1) ∷ ‵ (fat fullShare ty22 l22 0 r2) ∷ ‵ (fat fullShare ty23 l23 0 r3) ∷ []) $
           w-move ! (2 ∷ []) $ w-drop ! $
           w-forget ! 31 refl $ w-forget ! 32 refl $ w-forget ! 33 refl $ w-forget ! 34 refl $ w-forget ! 35 refl $ w-forget ! 36 refl $ w-forget ! 37 refl $ w-forget ! 38 refl $ w-forget ! 39 refl $ w-forget ! 40 refl $ w-forget ! 41 refl $ w-forget ! 42 refl $ w-forget ! 43 refl $ w-forget ! 44 refl $ w-forget ! 45 refl $ w-forget ! 46 refl $ w-forget ! 47 refl $ w-forget ! 48 refl $ w-forget ! 49 refl $ w-forget ! 50 refl $ w-forget ! 51 refl $ w-forget ! 52 refl $ w-move ! (31 ∷ 32 ∷ 33 ∷ 34 ∷ 35 ∷ 36 ∷ 37 ∷ 38 ∷ 39 ∷ 40 ∷ 41 ∷ 42 ∷ 43 ∷ 44 ∷ 45 ∷ 46 ∷ 47 ∷ 48 ∷ 49 ∷ 50 ∷ 51 ∷ 52 ∷ []) $ w-pack ! (‵ (froom ty24 l24 0) ∷ ‵ (froom ty25 l25 0) ∷ ‵ (froom ty26 l26 0) ∷ ‵ (froom ty27 l27 0) ∷ ‵ (froom ty28 l28 0) ∷ ‵ (froom ty29 l29 0) ∷ ‵ (froom ty30 l30 0) ∷ ‵ (froom ty31 l31 0) ∷ ‵ (froom ty32 l32 0) ∷ ‵ (froom ty33 l33 0) ∷ ‵ (froom ty34 l34 0) ∷ ‵ (froom ty35 l35 0) ∷ ‵ (froom ty36 l36 0) ∷ ‵ (froom ty37 l37 0) ∷ ‵ (froom ty38 l38 0) ∷ ‵ (froom ty39 l39 0) ∷ ‵ (froom ty40 l40 0) ∷ ‵ (froom ty41 l41 0) ∷ ‵ (froom ty42 l42 0) ∷ ‵ (froom ty43 l43 0) ∷ ‵ (froom ty44 l44 0) ∷ ‵ (froom ty45 l45 0) ∷ []) $
+          w-written ! (raw (Packed 𝓤 H A spare3) ∷ ‵ (MutSlice (named 14) κ-values f64 .own (ref-values γ-values (zs3 .1 .1 .1 .1 .1 .1 .1 .1 .1 .1 .1 .1 .1 .1 .1 .1 .1 .1 .0)) (sliceVal (b-values, o-values) (length values) ∷ [])) ∷ ‵ (flft κ-values q-values) ∷ ‵ (MutSlice (named 13) κ-updates T-Update.the-row .own (ref-updates γ-updates (zs3 .1 .1 .1 .1 .1 .1 .1 .1 .1 .1 .1 .1 .1 .1 .1 .1 .1 .0)) (sliceVal (b-updates, o-updates) (length updates) ∷ [])) ∷ ‵ (flft κ-updates q-updates) ∷ ‵ (MutSlice (named 12) κ-rows usize .own (ref-rows γ-rows (zs3 .1 .1 .1 .1 .1 .1 .1 .1 .1 .1 .1 .1 .1 .1 .1 .1 .0)) (sliceVal (b-rows, o-rows) (length rows) ∷ [])) ∷ ‵ (flft κ-rows q-rows) ∷ ‵ (MutSlice (named 11) κ-floats f64 .own (ref-floats γ-floats (zs3 .1 .1 .1 .1 .1 .1 .1 .1 .1 .1 .1 .1 .1 .1 .1 .0)) (sliceVal (b-floats, o-floats) (length floats) ∷ [])) ∷ ‵ (flft κ-floats q-floats) ∷ ‵ (MutSlice (named 10) κ-words usize .own (ref-words γ-words (zs3 .1 .1 .1 .1 .1 .1 .1 .1 .1 .1 .1 .1 .1 .1 .0)) (sliceVal (b-words, o-words) (length words) ∷ [])) ∷ ‵ (flft κ-words q-words) ∷ ‵ (MutSlice (named 9) κ-top usize .own (ref-top γ-top (zs3 .1 .1 .1 .1 .1 .1 .1 .1 .1 .1 .1 .1 .1 .0)) (sliceVal (b-top, o-top) (length top) ∷ [])) ∷ ‵ (flft κ-top q-top) ∷ ‵ (MutSlice (named 8) κ-tasks usize .own (ref-tasks γ-tasks (zs3 .1 .1 .1 .1 .1 .1 .1 .1 .1 .1 .1 .1 .0)) (sliceVal (b-tasks, o-tasks) (length tasks) ∷ [])) ∷ ‵ (flft κ-tasks q-tasks) ∷ ‵ (MutSlice (named 7) κ-groups usize .own (ref-groups γ-groups (zs3 .1 .1 .1 .1 .1 .1 .1 .1 .1 .1 .1 .0)) (sliceVal (b-groups, o-groups) (length groups) ∷ [])) ∷ ‵ (flft κ-groups q-groups) ∷ ‵ (MutSlice (named 6) κ-starts usize .own (ref-starts γ-starts (zs3 .1 .1 .1 .1 .1 .1 .1 .1 .1 .1 .0)) (sliceVal (b-starts, o-starts) (length starts) ∷ [])) ∷ ‵ (flft κ-starts q-starts) ∷ ‵ (MutSlice (named 5) κ-firsts usize .own (ref-firsts γ-firsts (zs3 .1 .1 .1 .1 .1 .1 .1 .1 .1 .0)) (sliceVal (b-firsts, o-firsts) (length firsts) ∷ [])) ∷ ‵ (flft κ-firsts q-firsts) ∷ ‵ (MutSlice (named 4) κ-permutation usize .own (ref-permutation γ-permutation (zs3 .1 .1 .1 .1 .1 .1 .1 .1 .0)) (sliceVal (b-permutation, o-permutation) (length permutation) ∷ [])) ∷ ‵ (flft κ-permutation q-permutation) ∷ ‵ (flft κ-list q-list) ∷ ‵ (flft κ-input-values q-input-values) ∷ ‵ (flft κ-input-rows q-input-rows) ∷ ‵ (flft κ-input-starts q-input-starts) ∷ ‵ (ShrSlice (named 3) κ-list usize .own (ref-list γ-list «list») (sliceVal (b-list, o-list) (length «list») ∷ [])) ∷ ‵ (ShrSlice (named 2) κ-input-values f64 .own (ref-input-values γ-input-values input-values) (sliceVal (b-input-values, o-input-values) (length input-values) ∷ [])) ∷ ‵ (ShrSlice (named 1) κ-input-rows usize .own (ref-input-rows γ-input-rows input-rows) (sliceVal (b-input-rows, o-input-rows) (length input-rows) ∷ [])) ∷ ‵ (ShrSlice (named 0) κ-input-starts usize .own (ref-input-starts γ-input-starts input-starts) (sliceVal (b-input-starts, o-input-starts) (length input-starts) ∷ [])) ∷ raw (Packed 𝓤 H A (‵ (MutRef (named 15) κ-results (Array usize 12) .own (ref-results γ-results results) (s-results ∷ [])) ∷ ‵ (flft κ-results q-results) ∷ ‵ (fat fullShare ty6 l6 0 (vint w64 order)) ∷ ‵ (fat fullShare ty8 l8 0 (vint w64 stop)) ∷ ‵ (fat fullShare ty20 l20 0 s-results) ∷ raw (Packed 𝓤 H A spare4) ∷ raw (Packed 𝓤 H A dying) ∷ [])) ∷ ‵ (froom ty0 l0 0) ∷ ‵ (fat fullShare ty1 l1 0 (vint w64 n)) ∷ ‵ (fat fullShare ty2 l2 0 s-input-starts) ∷ ‵ (fat fullShare ty3 l3 0 s-input-rows) ∷ ‵ (fat fullShare ty4 l4 0 s-input-values) ∷ ‵ (fat fullShare ty5 l5 0 (vint w64 cap)) ∷ ‵ (fat fullShare ty7 l7 0 s-list) ∷ ‵ (fat fullShare ty9 l9 0 s-permutation) ∷ ‵ (fat fullShare ty10 l10 0 s-firsts) ∷ ‵ (fat fullShare ty11 l11 0 s-starts) ∷ ‵ (fat fullShare ty12 l12 0 s-groups) ∷ ‵ (fat fullShare ty13 l13 0 s-tasks) ∷ ‵ (fat fullShare ty14 l14 0 s-top) ∷ ‵ (fat fullShare ty15 l15 0 s-words) ∷ ‵ (fat fullShare ty16 l16 0 s-floats) ∷ ‵ (fat fullShare ty17 l17 0 s-rows) ∷ ‵ (fat fullShare ty18 l18 0 s-updates) ∷ ‵ (fat fullShare ty19 l19 0 s-values) ∷ ‵ (fat fullShare ty21 l21 0 r1) ∷ ‵ (fat fullShare ty22 l22 0 r2) ∷ ‵ (fat fullShare ty23 l23 0 r3) ∷ []) $
           w-move ! (31 ∷ []) $ w-unpack ! (‵ (MutRef (named 15) κ-results (Array usize 12) .own (ref-results γ-results results) (s-results ∷ [])) ∷ ‵ (flft κ-results q-results) ∷ ‵ (fat fullShare ty6 l6 0 (vint w64 order)) ∷ ‵ (fat fullShare ty8 l8 0 (vint w64 stop)) ∷ ‵ (fat fullShare ty20 l20 0 s-results) ∷ raw (Packed 𝓤 H A spare4) ∷ raw (Packed 𝓤 H A dying) ∷ []) $
-          w-keep ! (37 ∷ 36 ∷ 35 ∷ 34 ∷ 28 ∷ 26 ∷ 24 ∷ 22 ∷ 20 ∷ 18 ∷ 16 ∷ 14 ∷ 12 ∷ 10 ∷ 8 ∷ 0 ∷ 33 ∷ 32 ∷ 31 ∷ 30 ∷ 29 ∷ 27 ∷ 25 ∷ 23 ∷ 21 ∷ 19 ∷ 17 ∷ 15 ∷ 13 ∷ 11 ∷ 9 ∷ 1 ∷ 38 ∷ 39 ∷ 40 ∷ 41 ∷ 42 ∷ 43 ∷ 2 ∷ 44 ∷ 3 ∷ 45 ∷ 46 ∷ 47 ∷ 48 ∷ 49 ∷ 50 ∷ 51 ∷ 52 ∷ 53 ∷ 54 ∷ 55 ∷ 4 ∷ 56 ∷ 57 ∷ 58 ∷ 7 ∷ 5 ∷ 6 ∷ []) $ after3 u1 r1 is1 d1 u2 r2 is2 d2 u3 r3 is3 (zs3 .1 .1 .1 .1 .1 .1 .1 .1 .0) (zs3 .1 .1 .1 .1 .1 .1 .1 .1 .1 .0) (zs3 .1 .1 .1 .1 .1 .1 .1 .1 .1 .1 .0) (zs3 .1 .1 .1 .1 .1 .1 .1 .1 .1 .1 .1 .0) (zs3 .1 .1 .1 .1 .1 .1 .1 .1 .1 .1 .1 .1 .0) (zs3 .1 .1 .1 .1 .1 .1 .1 .1 .1 .1 .1 .1 .1 .0) (zs3 .1 .1 .1 .1 .1 .1 .1 .1 .1 .1 .1 .1 .1 .1 .0) (zs3 .1 .1 .1 .1 .1 .1 .1 .1 .1 .1 .1 .1 .1 .1 .1 .0) (zs3 .1 .1 .1 .1 .1 .1 .1 .1 .1 .1 .1 .1 .1 .1 .1 .1 .0) (zs3 .1 .1 .1 .1 .1 .1 .1 .1 .1 .1 .1 .1 .1 .1 .1 .1 .1 .0) (zs3 .1 .1 .1 .1 .1 .1 .1 .1 .1 .1 .1 .1 .1 .1 .1 .1 .1 .1 .0) d3 same3-permutation same3-firsts same3-starts same3-groups same3-tasks same3-top same3-words same3-floats same3-rows same3-updates same3-values))))))))))))))))))))))))))))))))))))))
+          w-keep ! (37 ∷ 36 ∷ 35 ∷ 34 ∷ 28 ∷ 26 ∷ 24 ∷ 22 ∷ 20 ∷ 18 ∷ 16 ∷ 14 ∷ 12 ∷ 10 ∷ 8 ∷ 0 ∷ 33 ∷ 32 ∷ 31 ∷ 30 ∷ 29 ∷ 27 ∷ 25 ∷ 23 ∷ 21 ∷ 19 ∷ 17 ∷ 15 ∷ 13 ∷ 11 ∷ 9 ∷ 1 ∷ 38 ∷ 39 ∷ 40 ∷ 41 ∷ 42 ∷ 43 ∷ 2 ∷ 44 ∷ 3 ∷ 45 ∷ 46 ∷ 47 ∷ 48 ∷ 49 ∷ 50 ∷ 51 ∷ 52 ∷ 53 ∷ 54 ∷ 55 ∷ 4 ∷ 56 ∷ 57 ∷ 58 ∷ 7 ∷ 5 ∷ 6 ∷ []) $ after3 u1 r1 is1 d1 u2 r2 is2 d2 u3 r3 is3 (zs3 .1 .1 .1 .1 .1 .1 .1 .1 .0) (zs3 .1 .1 .1 .1 .1 .1 .1 .1 .1 .0) (zs3 .1 .1 .1 .1 .1 .1 .1 .1 .1 .1 .0) (zs3 .1 .1 .1 .1 .1 .1 .1 .1 .1 .1 .1 .0) (zs3 .1 .1 .1 .1 .1 .1 .1 .1 .1 .1 .1 .1 .0) (zs3 .1 .1 .1 .1 .1 .1 .1 .1 .1 .1 .1 .1 .1 .0) (zs3 .1 .1 .1 .1 .1 .1 .1 .1 .1 .1 .1 .1 .1 .1 .0) (zs3 .1 .1 .1 .1 .1 .1 .1 .1 .1 .1 .1 .1 .1 .1 .1 .0) (zs3 .1 .1 .1 .1 .1 .1 .1 .1 .1 .1 .1 .1 .1 .1 .1 .1 .0) (zs3 .1 .1 .1 .1 .1 .1 .1 .1 .1 .1 .1 .1 .1 .1 .1 .1 .1 .0) (zs3 .1 .1 .1 .1 .1 .1 .1 .1 .1 .1 .1 .1 .1 .1 .1 .1 .1 .1 .0) d3 same3-permutation same3-firsts same3-starts same3-groups same3-tasks same3-top same3-words same3-floats same3-rows same3-updates same3-values)))))))))))))))))))))))))))
 
       after1 : (u1 : Order) (r1 : Val) (is1 : Is T-Order.the-row u1 (r1 ∷ [])) (d1 : u1 ≡ orderSaid order) → Sq W (‵ (ShrSlice (named 0) κ-input-starts usize .own (ref-input-starts γ-input-starts input-starts) (sliceVal (b-input-starts, o-input-starts) (length input-starts) ∷ [])) ∷ ‵ (ShrSlice (named 1) κ-input-rows usize .own (ref-input-rows γ-input-rows input-rows) (sliceVal (b-input-rows, o-input-rows) (length input-rows) ∷ [])) ∷ ‵ (ShrSlice (named 2) κ-input-values f64 .own (ref-input-values γ-input-values input-values) (sliceVal (b-input-values, o-input-values) (length input-values) ∷ [])) ∷ ‵ (ShrSlice (named 3) κ-list usize .own (ref-list γ-list «list») (sliceVal (b-list, o-list) (length «list») ∷ [])) ∷ ‵ (MutSlice (named 4) κ-permutation usize .own (ref-permutation γ-permutation permutation) (sliceVal (b-permutation, o-permutation) (length permutation) ∷ [])) ∷ ‵ (MutSlice (named 5) κ-firsts usize .own (ref-firsts γ-firsts firsts) (sliceVal (b-firsts, o-firsts) (length firsts) ∷ [])) ∷ ‵ (MutSlice (named 6) κ-starts usize .own (ref-starts γ-starts starts) (sliceVal (b-starts, o-starts) (length starts) ∷ [])) ∷ ‵ (MutSlice (named 7) κ-groups usize .own (ref-groups γ-groups groups) (sliceVal (b-groups, o-groups) (length groups) ∷ [])) ∷ ‵ (MutSlice (named 8) κ-tasks usize .own (ref-tasks γ-tasks tasks) (sliceVal (b-tasks, o-tasks) (length tasks) ∷ [])) ∷ ‵ (MutSlice (named 9) κ-top usize .own (ref-top γ-top top) (sliceVal (b-top, o-top) (length top) ∷ [])) ∷ ‵ (MutSlice (named 10) κ-words usize .own (ref-words γ-words words) (sliceVal (b-words, o-words) (length words) ∷ [])) ∷ ‵ (MutSlice (named 11) κ-floats f64 .own (ref-floats γ-floats floats) (sliceVal (b-floats, o-floats) (length floats) ∷ [])) ∷ ‵ (MutSlice (named 12) κ-rows usize .own (ref-rows γ-rows rows) (sliceVal (b-rows, o-rows) (length rows) ∷ [])) ∷ ‵ (MutSlice (named 13) κ-updates T-Update.the-row .own (ref-updates γ-updates updates) (sliceVal (b-updates, o-updates) (length updates) ∷ [])) ∷ ‵ (MutSlice (named 14) κ-values f64 .own (ref-values γ-values values) (sliceVal (b-values, o-values) (length values) ∷ [])) ∷ ‵ (MutRef (named 15) κ-results (Array usize 12) .own (ref-results γ-results results) (s-results ∷ [])) ∷ ‵ (flft κ-input-starts q-input-starts) ∷ ‵ (flft κ-input-rows q-input-rows) ∷ ‵ (flft κ-input-values q-input-values) ∷ ‵ (flft κ-list q-list) ∷ ‵ (flft κ-permutation q-permutation) ∷ ‵ (flft κ-firsts q-firsts) ∷ ‵ (flft κ-starts q-starts) ∷ ‵ (flft κ-groups q-groups) ∷ ‵ (flft κ-tasks q-tasks) ∷ ‵ (flft κ-top q-top) ∷ ‵ (flft κ-words q-words) ∷ ‵ (flft κ-floats q-floats) ∷ ‵ (flft κ-rows q-rows) ∷ ‵ (flft κ-updates q-updates) ∷ ‵ (flft κ-values q-values) ∷ ‵ (flft κ-results q-results) ∷ ‵ (froom ty0 l0 0) ∷ ‵ (fat fullShare ty1 l1 0 (vint w64 n)) ∷ ‵ (fat fullShare ty2 l2 0 s-input-starts) ∷ ‵ (fat fullShare ty3 l3 0 s-input-rows) ∷ ‵ (fat fullShare ty4 l4 0 s-input-values) ∷ ‵ (fat fullShare ty5 l5 0 (vint w64 cap)) ∷ ‵ (fat fullShare ty6 l6 0 (vint w64 order)) ∷ ‵ (fat fullShare ty7 l7 0 s-list) ∷ ‵ (fat fullShare ty8 l8 0 (vint w64 stop)) ∷ ‵ (fat fullShare ty9 l9 0 s-permutation) ∷ ‵ (fat fullShare ty10 l10 0 s-firsts) ∷ ‵ (fat fullShare ty11 l11 0 s-starts) ∷ ‵ (fat fullShare ty12 l12 0 s-groups) ∷ ‵ (fat fullShare ty13 l13 0 s-tasks) ∷ ‵ (fat fullShare ty14 l14 0 s-top) ∷ ‵ (fat fullShare ty15 l15 0 s-words) ∷ ‵ (fat fullShare ty16 l16 0 s-floats) ∷ ‵ (fat fullShare ty17 l17 0 s-rows) ∷ ‵ (fat fullShare ty18 l18 0 s-updates) ∷ ‵ (fat fullShare ty19 l19 0 s-values) ∷ ‵ (fat fullShare ty20 l20 0 s-results) ∷ ‵ (fat fullShare ty21 l21 0 r1) ∷ ‵ (froom ty22 l22 0) ∷ ‵ (froom ty23 l23 0) ∷ raw (Packed 𝓤 H A spare3) ∷ raw (Packed 𝓤 H A spare4) ∷ raw (Packed 𝓤 H A dying) ∷ []) (runs C Λ En body.t-2 (atRet En Post))
       after1 u1 r1 is1 d1 =
@@ -488,9 +499,10 @@ module _ {M : Type 1} (𝓤 : URA M) (H : Heap 𝓤) (A : Atoms 𝓤) (W : Given
           w-calls-at ! fm (C-stop-of 𝓤 H A mem run) known-stop-of ((tt, tt, tt, (stop, tt), (vint w64 stop ∷ [], tt)), tt) (w-and-then ! (w-load ! (w-from ! (w-stop !)) (w-look ! 2 refl)) (w-no-more !)) (λ r2.
           use1 W (later (some (λ (u′ : Stop). ((‵ ftrue) ⊛ ‵ (T-Stop.the-row .own u′ (r2 ∷ []))) ⊛ raw (ensured 𝓤 H A f-stop-of.ended (f-stop-of.clauses 𝓤 H A mem run) tt (stop, tt) tt u′)))) (id⊢ 𝓤 _) $ w-await ! tt $ w-pick ! (λ u2.
           w-split ! $ w-move ! (1 ∷ []) $ use1 W (some (λ (zs2 : Unit {0} × Unit {0}). ‵ (lasts f-stop-of.ended tt (stop, tt) zs2) ⊛ raw (fact 𝓤 (u2 ≡ stopSaid stop)))) (id⊢ 𝓤 _) $ w-pick ! (λ zs2. w-split ! $ w-move ! (1 ∷ []) $ w-heard ! (u2 ≡ stopSaid stop) (λ d2.
-          w-fsplit ! $ w-drop ! $ w-drop ! $
+          w-past ! $ w-drop ! $
           w-split ! $ w-move ! (1 ∷ []) $ w-peeks ! T-Stop.the-row (Is T-Stop.the-row) (shows 𝓤 H A T-Stop.the-row) u2 (r2 ∷ []) (λ is2. w-land ! (w-from ! (w-stop !)) (w-init ! 4 refl (EL.lawful T-Stop.the-type L-Stop.the-laws 𝓤 H A W tt .typed u2 _ is2 .0)) $
           w-drop ! $ w-drop ! $
+          w-written ! (raw (Packed 𝓤 H A (‵ (ShrSlice (named 0) κ-input-starts usize .own (ref-input-starts γ-input-starts input-starts) (sliceVal (b-input-starts, o-input-starts) (length input-starts) ∷ [])) ∷ ‵ (ShrSlice (named 1) κ-input-rows usize .own (ref-input-rows γ-input-rows input-rows) (sliceVal (b-input-rows, o-input-rows) (length input-rows) ∷ [])) ∷ ‵ (ShrSlice (named 2) κ-input-values f64 .own (ref-input-values γ-input-values input-values) (sliceVal (b-input-values, o-input-values) (length input-values) ∷ [])) ∷ ‵ (ShrSlice (named 3) κ-list usize .own (ref-list γ-list «list») (sliceVal (b-list, o-list) (length «list») ∷ [])) ∷ ‵ (MutSlice (named 4) κ-permutation usize .own (ref-permutation γ-permutation permutation) (sliceVal (b-permutation, o-permutation) (length permutation) ∷ [])) ∷ ‵ (MutSlice (named 5) κ-firsts usize .own (ref-firsts γ-firsts firsts) (sliceVal (b-firsts, o-firsts) (length firsts) ∷ [])) ∷ ‵ (MutSlice (named 6) κ-starts usize .own (ref-starts γ-starts starts) (sliceVal (b-starts, o-starts) (length starts) ∷ [])) ∷ ‵ (MutSlice (named 7) κ-groups usize .own (ref-groups γ-groups groups) (sliceVal (b-groups, o-groups) (length groups) ∷ [])) ∷ ‵ (MutSlice (named 8) κ-tasks usize .own (ref-tasks γ-tasks tasks) (sliceVal (b-tasks, o-tasks) (length tasks) ∷ [])) ∷ ‵ (MutSlice (named 9) κ-top usize .own (ref-top γ-top top) (sliceVal (b-top, o-top) (length top) ∷ [])) ∷ ‵ (MutSlice (named 10) κ-words usize .own (ref-words γ-words words) (sliceVal (b-words, o-words) (length words) ∷ [])) ∷ ‵ (MutSlice (named 11) κ-floats f64 .own (ref-floats γ-floats floats) (sliceVal (b-floats, o-floats) (length floats) ∷ [])) ∷ ‵ (MutSlice (named 12) κ-rows usize .own (ref-rows γ-rows rows) (sliceVal (b-rows, o-rows) (length rows) ∷ [])) ∷ ‵ (MutSlice (named 13) κ-updates T-Update.the-row .own (ref-updates γ-updates updates) (sliceVal (b-updates, o-updates) (length updates) ∷ [])) ∷ ‵ (MutSlice (named 14) κ-values f64 .own (ref-values γ-values values) (sliceVal (b-values, o-values) (length values) ∷ [])) ∷ ‵ (MutRef (named 15) κ-results (Array usize 12) .own (ref-results γ-results results) (s-results ∷ [])) ∷ ‵ (flft κ-input-starts q-input-starts) ∷ ‵ (flft κ-input-rows q-input-rows) ∷ ‵ (flft κ-input-values q-input-values) ∷ ‵ (flft κ-list q-list) ∷ ‵ (flft κ-permutation q-permutation) ∷ ‵ (flft κ-firsts q-firsts) ∷ ‵ (flft κ-starts q-starts) ∷ ‵ (flft κ-groups q-groups) ∷ ‵ (flft κ-tasks q-tasks) ∷ ‵ (flft κ-top q-top) ∷ ‵ (flft κ-words q-words) ∷ ‵ (flft κ-floats q-floats) ∷ ‵ (flft κ-rows q-rows) ∷ ‵ (flft κ-updates q-updates) ∷ ‵ (flft κ-values q-values) ∷ ‵ (flft κ-results q-results) ∷ ‵ (froom ty0 l0 0) ∷ ‵ (fat fullShare ty1 l1 0 (vint w64 n)) ∷ ‵ (fat fullShare ty2 l2 0 s-input-starts) ∷ ‵ (fat fullShare ty3 l3 0 s-input-rows) ∷ ‵ (fat fullShare ty4 l4 0 s-input-values) ∷ ‵ (fat fullShare ty5 l5 0 (vint w64 cap)) ∷ ‵ (fat fullShare ty6 l6 0 (vint w64 order)) ∷ ‵ (fat fullShare ty7 l7 0 s-list) ∷ ‵ (fat fullShare ty9 l9 0 s-permutation) ∷ ‵ (fat fullShare ty10 l10 0 s-firsts) ∷ ‵ (fat fullShare ty11 l11 0 s-starts) ∷ ‵ (fat fullShare ty12 l12 0 s-groups) ∷ ‵ (fat fullShare ty13 l13 0 s-tasks) ∷ ‵ (fat fullShare ty14 l14 0 s-top) ∷ ‵ (fat fullShare ty15 l15 0 s-words) ∷ ‵ (fat fullShare ty16 l16 0 s-floats) ∷ ‵ (fat fullShare ty17 l17 0 s-rows) ∷ ‵ (fat fullShare ty18 l18 0 s-updates) ∷ ‵ (fat fullShare ty19 l19 0 s-values) ∷ ‵ (fat fullShare ty20 l20 0 s-results) ∷ ‵ (fat fullShare ty21 l21 0 r1) ∷ ‵ (froom ty23 l23 0) ∷ raw (Packed 𝓤 H A spare3) ∷ raw (Packed 𝓤 H A spare4) ∷ raw (Packed 𝓤 H A dying) ∷ [])) ∷ ‵ (fat fullShare ty8 l8 0 (vint w64 stop)) ∷ ‵ (fat fullShare ty22 l22 0 r2) ∷ []) $
           w-unpack ! (‵ (ShrSlice (named 0) κ-input-starts usize .own (ref-input-starts γ-input-starts input-starts) (sliceVal (b-input-starts, o-input-starts) (length input-starts) ∷ [])) ∷ ‵ (ShrSlice (named 1) κ-input-rows usize .own (ref-input-rows γ-input-rows input-rows) (sliceVal (b-input-rows, o-input-rows) (length input-rows) ∷ [])) ∷ ‵ (ShrSlice (named 2) κ-input-values f64 .own (ref-input-values γ-input-values input-values) (sliceVal (b-input-values, o-input-values) (length input-values) ∷ [])) ∷ ‵ (ShrSlice (named 3) κ-list usize .own (ref-list γ-list «list») (sliceVal (b-list, o-list) (length «list») ∷ [])) ∷ ‵ (MutSlice (named 4) κ-permutation usize .own (ref-permutation γ-permutation permutation) (sliceVal (b-permutation, o-permutation) (length permutation) ∷ [])) ∷ ‵ (MutSlice (named 5) κ-firsts usize .own (ref-firsts γ-firsts firsts) (sliceVal (b-firsts, o-firsts) (length firsts) ∷ [])) ∷ ‵ (MutSlice (named 6) κ-starts usize .own (ref-starts γ-starts starts) (sliceVal (b-starts, o-starts) (length starts) ∷ [])) ∷ ‵ (MutSlice (named 7) κ-groups usize .own (ref-groups γ-groups groups) (sliceVal (b-groups, o-groups) (length groups) ∷ [])) ∷ ‵ (MutSlice (named 8) κ-tasks usize .own (ref-tasks γ-tasks tasks) (sliceVal (b-tasks, o-tasks) (length tasks) ∷ [])) ∷ ‵ (MutSlice (named 9) κ-top usize .own (ref-top γ-top top) (sliceVal (b-top, o-top) (length top) ∷ [])) ∷ ‵ (MutSlice (named 10) κ-words usize .own (ref-words γ-words words) (sliceVal (b-words, o-words) (length words) ∷ [])) ∷ ‵ (MutSlice (named 11) κ-floats f64 .own (ref-floats γ-floats floats) (sliceVal (b-floats, o-floats) (length floats) ∷ [])) ∷ ‵ (MutSlice (named 12) κ-rows usize .own (ref-rows γ-rows rows) (sliceVal (b-rows, o-rows) (length rows) ∷ [])) ∷ ‵ (MutSlice (named 13) κ-updates T-Update.the-row .own (ref-updates γ-updates updates) (sliceVal (b-updates, o-updates) (length updates) ∷ [])) ∷ ‵ (MutSlice (named 14) κ-values f64 .own (ref-values γ-values values) (sliceVal (b-values, o-values) (length values) ∷ [])) ∷ ‵ (MutRef (named 15) κ-results (Array usize 12) .own (ref-results γ-results results) (s-results ∷ [])) ∷ ‵ (flft κ-input-starts q-input-starts) ∷ ‵ (flft κ-input-rows q-input-rows) ∷ ‵ (flft κ-input-values q-input-values) ∷ ‵ (flft κ-list q-list) ∷ ‵ (flft κ-permutation q-permutation) ∷ ‵ (flft κ-firsts q-firsts) ∷ ‵ (flft κ-starts q-starts) ∷ ‵ (flft κ-groups q-groups) ∷ ‵ (flft κ-tasks q-tasks) ∷ ‵ (flft κ-top q-top) ∷ ‵ (flft κ-words q-words) ∷ ‵ (flft κ-floats q-floats) ∷ ‵ (flft κ-rows q-rows) ∷ ‵ (flft κ-updates q-updates) ∷ ‵ (flft κ-values q-values) ∷ ‵ (flft κ-results q-results) ∷ ‵ (froom ty0 l0 0) ∷ ‵ (fat fullShare ty1 l1 0 (vint w64 n)) ∷ ‵ (fat fullShare ty2 l2 0 s-input-starts) ∷ ‵ (fat fullShare ty3 l3 0 s-input-rows) ∷ ‵ (fat fullShare ty4 l4 0 s-input-values) ∷ ‵ (fat fullShare ty5 l5 0 (vint w64 cap)) ∷ ‵ (fat fullShare ty6 l6 0 (vint w64 order)) ∷ ‵ (fat fullShare ty7 l7 0 s-list) ∷ ‵ (fat fullShare ty9 l9 0 s-permutation) ∷ ‵ (fat fullShare ty10 l10 0 s-firsts) ∷ ‵ (fat fullShare ty11 l11 0 s-starts) ∷ ‵ (fat fullShare ty12 l12 0 s-groups) ∷ ‵ (fat fullShare ty13 l13 0 s-tasks) ∷ ‵ (fat fullShare ty14 l14 0 s-top) ∷ ‵ (fat fullShare ty15 l15 0 s-words) ∷ ‵ (fat fullShare ty16 l16 0 s-floats) ∷ ‵ (fat fullShare ty17 l17 0 s-rows) ∷ ‵ (fat fullShare ty18 l18 0 s-updates) ∷ ‵ (fat fullShare ty19 l19 0 s-values) ∷ ‵ (fat fullShare ty20 l20 0 s-results) ∷ ‵ (fat fullShare ty21 l21 0 r1) ∷ ‵ (froom ty23 l23 0) ∷ raw (Packed 𝓤 H A spare3) ∷ raw (Packed 𝓤 H A spare4) ∷ raw (Packed 𝓤 H A dying) ∷ []) $
           w-keep ! (0 ∷ 1 ∷ 2 ∷ 3 ∷ 4 ∷ 5 ∷ 6 ∷ 7 ∷ 8 ∷ 9 ∷ 10 ∷ 11 ∷ 12 ∷ 13 ∷ 14 ∷ 15 ∷ 16 ∷ 17 ∷ 18 ∷ 19 ∷ 20 ∷ 21 ∷ 22 ∷ 23 ∷ 24 ∷ 25 ∷ 26 ∷ 27 ∷ 28 ∷ 29 ∷ 30 ∷ 31 ∷ 32 ∷ 33 ∷ 34 ∷ 35 ∷ 36 ∷ 37 ∷ 38 ∷ 39 ∷ 57 ∷ 40 ∷ 41 ∷ 42 ∷ 43 ∷ 44 ∷ 45 ∷ 46 ∷ 47 ∷ 48 ∷ 49 ∷ 50 ∷ 51 ∷ 52 ∷ 58 ∷ 53 ∷ 54 ∷ 55 ∷ 56 ∷ []) $ after2 u1 r1 is1 d1 u2 r2 is2 d2)))))
 
@@ -503,9 +515,10 @@ module _ {M : Type 1} (𝓤 : URA M) (H : Heap 𝓤) (A : Atoms 𝓤) (W : Given
           w-calls-at ! fm (C-order-of 𝓤 H A mem run) known-order-of ((tt, tt, tt, (order, tt), (vint w64 order ∷ [], tt)), tt) (w-and-then ! (w-load ! (w-from ! (w-stop !)) (w-look ! 2 refl)) (w-no-more !)) (λ r1.
           use1 W (later (some (λ (u′ : Order). ((‵ ftrue) ⊛ ‵ (T-Order.the-row .own u′ (r1 ∷ []))) ⊛ raw (ensured 𝓤 H A f-order-of.ended (f-order-of.clauses 𝓤 H A mem run) tt (order, tt) tt u′)))) (id⊢ 𝓤 _) $ w-await ! tt $ w-pick ! (λ u1.
           w-split ! $ w-move ! (1 ∷ []) $ use1 W (some (λ (zs1 : Unit {0} × Unit {0}). ‵ (lasts f-order-of.ended tt (order, tt) zs1) ⊛ raw (fact 𝓤 (u1 ≡ orderSaid order)))) (id⊢ 𝓤 _) $ w-pick ! (λ zs1. w-split ! $ w-move ! (1 ∷ []) $ w-heard ! (u1 ≡ orderSaid order) (λ d1.
-          w-fsplit ! $ w-drop ! $ w-drop ! $
+          w-past ! $ w-drop ! $
           w-split ! $ w-move ! (1 ∷ []) $ w-peeks ! T-Order.the-row (Is T-Order.the-row) (shows 𝓤 H A T-Order.the-row) u1 (r1 ∷ []) (λ is1. w-land ! (w-from ! (w-stop !)) (w-init ! 4 refl (EL.lawful T-Order.the-type L-Order.the-laws 𝓤 H A W tt .typed u1 _ is1 .0)) $
           w-drop ! $ w-drop ! $
+          w-written ! (raw (Packed 𝓤 H A (‵ (ShrSlice (named 0) κ-input-starts usize .own (ref-input-starts γ-input-starts input-starts) (sliceVal (b-input-starts, o-input-starts) (length input-starts) ∷ [])) ∷ ‵ (ShrSlice (named 1) κ-input-rows usize .own (ref-input-rows γ-input-rows input-rows) (sliceVal (b-input-rows, o-input-rows) (length input-rows) ∷ [])) ∷ ‵ (ShrSlice (named 2) κ-input-values f64 .own (ref-input-values γ-input-values input-values) (sliceVal (b-input-values, o-input-values) (length input-values) ∷ [])) ∷ ‵ (ShrSlice (named 3) κ-list usize .own (ref-list γ-list «list») (sliceVal (b-list, o-list) (length «list») ∷ [])) ∷ ‵ (MutSlice (named 4) κ-permutation usize .own (ref-permutation γ-permutation permutation) (sliceVal (b-permutation, o-permutation) (length permutation) ∷ [])) ∷ ‵ (MutSlice (named 5) κ-firsts usize .own (ref-firsts γ-firsts firsts) (sliceVal (b-firsts, o-firsts) (length firsts) ∷ [])) ∷ ‵ (MutSlice (named 6) κ-starts usize .own (ref-starts γ-starts starts) (sliceVal (b-starts, o-starts) (length starts) ∷ [])) ∷ ‵ (MutSlice (named 7) κ-groups usize .own (ref-groups γ-groups groups) (sliceVal (b-groups, o-groups) (length groups) ∷ [])) ∷ ‵ (MutSlice (named 8) κ-tasks usize .own (ref-tasks γ-tasks tasks) (sliceVal (b-tasks, o-tasks) (length tasks) ∷ [])) ∷ ‵ (MutSlice (named 9) κ-top usize .own (ref-top γ-top top) (sliceVal (b-top, o-top) (length top) ∷ [])) ∷ ‵ (MutSlice (named 10) κ-words usize .own (ref-words γ-words words) (sliceVal (b-words, o-words) (length words) ∷ [])) ∷ ‵ (MutSlice (named 11) κ-floats f64 .own (ref-floats γ-floats floats) (sliceVal (b-floats, o-floats) (length floats) ∷ [])) ∷ ‵ (MutSlice (named 12) κ-rows usize .own (ref-rows γ-rows rows) (sliceVal (b-rows, o-rows) (length rows) ∷ [])) ∷ ‵ (MutSlice (named 13) κ-updates T-Update.the-row .own (ref-updates γ-updates updates) (sliceVal (b-updates, o-updates) (length updates) ∷ [])) ∷ ‵ (MutSlice (named 14) κ-values f64 .own (ref-values γ-values values) (sliceVal (b-values, o-values) (length values) ∷ [])) ∷ ‵ (MutRef (named 15) κ-results (Array usize 12) .own (ref-results γ-results results) (s-results ∷ [])) ∷ ‵ (flft κ-input-starts q-input-starts) ∷ ‵ (flft κ-input-rows q-input-rows) ∷ ‵ (flft κ-input-values q-input-values) ∷ ‵ (flft κ-list q-list) ∷ ‵ (flft κ-permutation q-permutation) ∷ ‵ (flft κ-firsts q-firsts) ∷ ‵ (flft κ-starts q-starts) ∷ ‵ (flft κ-groups q-groups) ∷ ‵ (flft κ-tasks q-tasks) ∷ ‵ (flft κ-top q-top) ∷ ‵ (flft κ-words q-words) ∷ ‵ (flft κ-floats q-floats) ∷ ‵ (flft κ-rows q-rows) ∷ ‵ (flft κ-updates q-updates) ∷ ‵ (flft κ-values q-values) ∷ ‵ (flft κ-results q-results) ∷ ‵ (froom ty0 l0 0) ∷ ‵ (fat fullShare ty1 l1 0 (vint w64 n)) ∷ ‵ (fat fullShare ty2 l2 0 s-input-starts) ∷ ‵ (fat fullShare ty3 l3 0 s-input-rows) ∷ ‵ (fat fullShare ty4 l4 0 s-input-values) ∷ ‵ (fat fullShare ty5 l5 0 (vint w64 cap)) ∷ ‵ (fat fullShare ty7 l7 0 s-list) ∷ ‵ (fat fullShare ty8 l8 0 (vint w64 stop)) ∷ ‵ (fat fullShare ty9 l9 0 s-permutation) ∷ ‵ (fat fullShare ty10 l10 0 s-firsts) ∷ ‵ (fat fullShare ty11 l11 0 s-starts) ∷ ‵ (fat fullShare ty12 l12 0 s-groups) ∷ ‵ (fat fullShare ty13 l13 0 s-tasks) ∷ ‵ (fat fullShare ty14 l14 0 s-top) ∷ ‵ (fat fullShare ty15 l15 0 s-words) ∷ ‵ (fat fullShare ty16 l16 0 s-floats) ∷ ‵ (fat fullShare ty17 l17 0 s-rows) ∷ ‵ (fat fullShare ty18 l18 0 s-updates) ∷ ‵ (fat fullShare ty19 l19 0 s-values) ∷ ‵ (fat fullShare ty20 l20 0 s-results) ∷ ‵ (froom ty22 l22 0) ∷ ‵ (froom ty23 l23 0) ∷ raw (Packed 𝓤 H A spare3) ∷ raw (Packed 𝓤 H A spare4) ∷ raw (Packed 𝓤 H A dying) ∷ [])) ∷ ‵ (fat fullShare ty6 l6 0 (vint w64 order)) ∷ ‵ (fat fullShare ty21 l21 0 r1) ∷ []) $
           w-unpack ! (‵ (ShrSlice (named 0) κ-input-starts usize .own (ref-input-starts γ-input-starts input-starts) (sliceVal (b-input-starts, o-input-starts) (length input-starts) ∷ [])) ∷ ‵ (ShrSlice (named 1) κ-input-rows usize .own (ref-input-rows γ-input-rows input-rows) (sliceVal (b-input-rows, o-input-rows) (length input-rows) ∷ [])) ∷ ‵ (ShrSlice (named 2) κ-input-values f64 .own (ref-input-values γ-input-values input-values) (sliceVal (b-input-values, o-input-values) (length input-values) ∷ [])) ∷ ‵ (ShrSlice (named 3) κ-list usize .own (ref-list γ-list «list») (sliceVal (b-list, o-list) (length «list») ∷ [])) ∷ ‵ (MutSlice (named 4) κ-permutation usize .own (ref-permutation γ-permutation permutation) (sliceVal (b-permutation, o-permutation) (length permutation) ∷ [])) ∷ ‵ (MutSlice (named 5) κ-firsts usize .own (ref-firsts γ-firsts firsts) (sliceVal (b-firsts, o-firsts) (length firsts) ∷ [])) ∷ ‵ (MutSlice (named 6) κ-starts usize .own (ref-starts γ-starts starts) (sliceVal (b-starts, o-starts) (length starts) ∷ [])) ∷ ‵ (MutSlice (named 7) κ-groups usize .own (ref-groups γ-groups groups) (sliceVal (b-groups, o-groups) (length groups) ∷ [])) ∷ ‵ (MutSlice (named 8) κ-tasks usize .own (ref-tasks γ-tasks tasks) (sliceVal (b-tasks, o-tasks) (length tasks) ∷ [])) ∷ ‵ (MutSlice (named 9) κ-top usize .own (ref-top γ-top top) (sliceVal (b-top, o-top) (length top) ∷ [])) ∷ ‵ (MutSlice (named 10) κ-words usize .own (ref-words γ-words words) (sliceVal (b-words, o-words) (length words) ∷ [])) ∷ ‵ (MutSlice (named 11) κ-floats f64 .own (ref-floats γ-floats floats) (sliceVal (b-floats, o-floats) (length floats) ∷ [])) ∷ ‵ (MutSlice (named 12) κ-rows usize .own (ref-rows γ-rows rows) (sliceVal (b-rows, o-rows) (length rows) ∷ [])) ∷ ‵ (MutSlice (named 13) κ-updates T-Update.the-row .own (ref-updates γ-updates updates) (sliceVal (b-updates, o-updates) (length updates) ∷ [])) ∷ ‵ (MutSlice (named 14) κ-values f64 .own (ref-values γ-values values) (sliceVal (b-values, o-values) (length values) ∷ [])) ∷ ‵ (MutRef (named 15) κ-results (Array usize 12) .own (ref-results γ-results results) (s-results ∷ [])) ∷ ‵ (flft κ-input-starts q-input-starts) ∷ ‵ (flft κ-input-rows q-input-rows) ∷ ‵ (flft κ-input-values q-input-values) ∷ ‵ (flft κ-list q-list) ∷ ‵ (flft κ-permutation q-permutation) ∷ ‵ (flft κ-firsts q-firsts) ∷ ‵ (flft κ-starts q-starts) ∷ ‵ (flft κ-groups q-groups) ∷ ‵ (flft κ-tasks q-tasks) ∷ ‵ (flft κ-top q-top) ∷ ‵ (flft κ-words q-words) ∷ ‵ (flft κ-floats q-floats) ∷ ‵ (flft κ-rows q-rows) ∷ ‵ (flft κ-updates q-updates) ∷ ‵ (flft κ-values q-values) ∷ ‵ (flft κ-results q-results) ∷ ‵ (froom ty0 l0 0) ∷ ‵ (fat fullShare ty1 l1 0 (vint w64 n)) ∷ ‵ (fat fullShare ty2 l2 0 s-input-starts) ∷ ‵ (fat fullShare ty3 l3 0 s-input-rows) ∷ ‵ (fat fullShare ty4 l4 0 s-input-values) ∷ ‵ (fat fullShare ty5 l5 0 (vint w64 cap)) ∷ ‵ (fat fullShare ty7 l7 0 s-list) ∷ ‵ (fat fullShare ty8 l8 0 (vint w64 stop)) ∷ ‵ (fat fullShare ty9 l9 0 s-permutation) ∷ ‵ (fat fullShare ty10 l10 0 s-firsts) ∷ ‵ (fat fullShare ty11 l11 0 s-starts) ∷ ‵ (fat fullShare ty12 l12 0 s-groups) ∷ ‵ (fat fullShare ty13 l13 0 s-tasks) ∷ ‵ (fat fullShare ty14 l14 0 s-top) ∷ ‵ (fat fullShare ty15 l15 0 s-words) ∷ ‵ (fat fullShare ty16 l16 0 s-floats) ∷ ‵ (fat fullShare ty17 l17 0 s-rows) ∷ ‵ (fat fullShare ty18 l18 0 s-updates) ∷ ‵ (fat fullShare ty19 l19 0 s-values) ∷ ‵ (fat fullShare ty20 l20 0 s-results) ∷ ‵ (froom ty22 l22 0) ∷ ‵ (froom ty23 l23 0) ∷ raw (Packed 𝓤 H A spare3) ∷ raw (Packed 𝓤 H A spare4) ∷ raw (Packed 𝓤 H A dying) ∷ []) $
           w-keep ! (0 ∷ 1 ∷ 2 ∷ 3 ∷ 4 ∷ 5 ∷ 6 ∷ 7 ∷ 8 ∷ 9 ∷ 10 ∷ 11 ∷ 12 ∷ 13 ∷ 14 ∷ 15 ∷ 16 ∷ 17 ∷ 18 ∷ 19 ∷ 20 ∷ 21 ∷ 22 ∷ 23 ∷ 24 ∷ 25 ∷ 26 ∷ 27 ∷ 28 ∷ 29 ∷ 30 ∷ 31 ∷ 32 ∷ 33 ∷ 34 ∷ 35 ∷ 36 ∷ 37 ∷ 57 ∷ 38 ∷ 39 ∷ 40 ∷ 41 ∷ 42 ∷ 43 ∷ 44 ∷ 45 ∷ 46 ∷ 47 ∷ 48 ∷ 49 ∷ 50 ∷ 51 ∷ 58 ∷ 52 ∷ 53 ∷ 54 ∷ 55 ∷ 56 ∷ []) $ after1 u1 r1 is1 d1)))))
 

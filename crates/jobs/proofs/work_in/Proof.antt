@@ -23,7 +23,7 @@ use denote.Plain.{uint-lawful, uint-makes, uint-tells, uint-vals}
 use denote.RattleType.{owns}
 use denote.Ref.{MutRef, RefT, mut-tells, ptr-vals}
 use denote.Signature.{plain}
-use denote.Slice.{MutSlice, Room, ShrSlice, mut-slice-tells, shr-slice-copy, shr-slice-tells, slice-vals, sliceTy, sliceVal}
+use denote.Slice.{MutSlice, Room, ShrSlice, finally, mut-slice-tells, shr-slice-copy, shr-slice-tells, slice-vals, sliceTy, sliceVal}
 use denote.Steps.{heard as w-heard, nothing as w-nothing, owned as w-owned, peeks as w-peeks}
 use denote.Triple.Call.{calls-at as w-calls-at}
 use denote.Triple.Clauses.{ensured, lasts}
@@ -39,14 +39,14 @@ use lib.Dec.{lit<}
 use lib.Ieee.{Float, binary64}
 use lib.ListN.{length, length-replicate, replicate}
 use mathlib.Core.List.{List, [], _∷_}
-use mathlib.Core.Path.{_∙_, _≡_, refl, subst, sym}
+use mathlib.Core.Path.{_∙_, _≡_, refl, sym}
 use mir.Syntax.{Ty, erased, imm, mut, named, tyArray, tyFloat, tyInt, tyRef, w64, w8}
 use mir.Val.{Val, vint, vptr}
 use prog.Memory.{Memory}
 use prog.Routine.{Routine}
 use prog.Wp.{Calls, Env, Heap, Loops, Tables, WpFn}
 use sound.WpLaws.{FmC, WpFn-mono, fmOf}
-use types.Kit.{ !, Given, Item, Sq, _$_, _∵_, _⊛_, atRet, await as w-await, by as w-by, done, drop as w-drop, feqL as w-feqL, fjoin as w-fjoin, frame as w-frame, fsplit as w-fsplit, join as w-join, keep as w-keep, later, move as w-move, params′, pick as w-pick, qed, raw, rewrite as w-rewrite, runs, some, split as w-split, suffices as w-suffices, use1, use2, use3, ‵, ⋆}
+use types.Kit.{ !, Given, Item, Sq, _$_, _∵_, _⊛_, atRet, await as w-await, by as w-by, done, drop as w-drop, fjoin as w-fjoin, frame as w-frame, fsplit as w-fsplit, join as w-join, keep as w-keep, later, move as w-move, params′, pick as w-pick, qed, raw, rewrite as w-rewrite, runs, some, split as w-split, suffices as w-suffices, use1, use2, use3, ‵, ⋆}
 use types.Part.{agg as w-agg, look-in as w-look-in, rep as w-rep, sub as w-sub, whole as w-whole}
 use types.Run.{addr as w-addr, alloc0 as w-alloc0, alloc1 as w-alloc1, and-then as w-and-then, assigns as w-assigns, enter as w-enter, fld as w-fld, forget as w-forget, from as w-from, hop as w-hop, init as w-init, land as w-land, load as w-load, look as w-look, no-more as w-no-more, params1 as w-params1, pass0 as w-pass0, pass1 as w-pass1, returns as w-returns, stop as w-stop}
 use types.Tokens.{lft-end as w-lft-end, lft-new as w-lft-new}
@@ -85,9 +85,10 @@ use Rattle.jobs.proofs.answer.answer.Symbol as def-answer
 use Rattle.jobs.proofs.answer.answer.Symbol.{name as #jobs·answer}
 use Rattle.jobs.proofs.answer.answer.Met as thm-answer
 use Rattle.update.proofs.Steps.{big-lit as w-big-lit}
-use Rattle.update.proofs.Packs.{Packed, pack as w-pack, unpack as w-unpack, homes-freed as w-homes-freed}
-use Rattle.update.proofs.Again.{LentAgain, lends-again, comes-back}
-use Rattle.update.proofs.Shared.{LentShared, lends-shared, shared-back}
+use Rattle.update.proofs.Packs.{Packed, pack as w-pack, unpack as w-unpack, written as w-written, homes-freed as w-homes-freed}
+use Rattle.update.proofs.Again.{LentAgain}
+use Rattle.update.proofs.Shared.{LentShared}
+use Rattle.update.proofs.Lending.{lend as w-lend, show as w-show, back as w-back, shown as w-shown, last as w-last, past as w-past}
 use Rattle.update.proofs.Owned.{Lies, LentOwned, ShownOwned, array-typed, array-made, array-dies, lends-owned, owned-back, shows-owned, shown-back}
 use Rattle.jobs.proofs.work_in.Key.{name as #jobs·work-in}
 use Rattle.jobs.proofs.work_in as here
@@ -448,13 +449,13 @@ module _ {M : Type 1} (𝓤 : URA M) (H : Heap 𝓤) (A : Atoms 𝓤) (W : Given
     asked3 u1 r1 is1 d1 u2 r2 is2 d2 =
         qed W ((‵ ftrue) ∷ ‵ (owns ([]) tt tt) ∷ []) ∵ w-join ! $ w-frame ! $ done !
 
-    asked4 : (u1 : Order) (r1 : Val) (is1 : Is T-Order.the-row u1 (r1 ∷ [])) (d1 : u1 ≡ Plain) (u2 : Stop) (r2 : Val) (is2 : Is T-Stop.the-row u2 (r2 ∷ [])) (d2 : u2 ≡ End) (u3 : Update) (r3 : Val) (is3 : Is T-Update.the-row u3 (r3 ∷ [])) (d3 : u3 ≡ noUpdate) (updates : List Update) (made-updates : updates ≡ replicate 8256 u3) (size-updates : length updates ≡ 8256) (l22 : ℕ) (ν4-8 : ℕ) (δ4-8 : GName) (ν4-9 : ℕ) (δ4-9 : GName) (ν4-10 : ℕ) (δ4-10 : GName) (ν4-11 : ℕ) (δ4-11 : GName) (ν4-12 : ℕ) (δ4-12 : GName) (ν4-13 : ℕ) (δ4-13 : GName) (ν4-14 : ℕ) (δ4-14 : GName) (ν4-15 : ℕ) (δ4-15 : GName) (ν4-16 : ℕ) (δ4-16 : GName) (ν4-17 : ℕ) (δ4-17 : GName) (ν4-18 : ℕ) (δ4-18 : GName) → ent 𝓤 (onEntry 𝓤 H A f-factor.signature (κ-input-starts, (κ-input-rows, (κ-input-values, (κ-list, (ν4-8 ∷ [], (ν4-9 ∷ [], (ν4-10 ∷ [], (ν4-11 ∷ [], (ν4-12 ∷ [], (ν4-13 ∷ [], (ν4-14 ∷ [], (ν4-15 ∷ [], (ν4-16 ∷ [], (ν4-17 ∷ [], (ν4-18 ∷ [], tt))))))))))))))) (q-input-starts, (q-input-rows, (q-input-values, (q-list, (fullShare, (fullShare, (fullShare, (fullShare, (fullShare, (fullShare, (fullShare, (fullShare, (fullShare, (fullShare, (fullShare, tt))))))))))))))) (n, (ref-input-starts γ-input-starts input-starts, (ref-input-rows γ-input-rows input-rows, (ref-input-values γ-input-values input-values, (cap, (u1, (ref-list γ-list «list», (u2, (ref-permutation δ4-8 permutation, (ref-firsts δ4-9 firsts, (ref-starts δ4-10 starts, (ref-groups δ4-11 groups, (ref-tasks δ4-12 tasks, (ref-top δ4-13 top, (ref-words δ4-14 words, (ref-floats δ4-15 floats, (ref-rows δ4-16 rows, (ref-updates l22 δ4-17 updates, (ref-values δ4-18 values, tt))))))))))))))))))) (vint w64 n ∷ [], (sliceVal (b-input-starts, o-input-starts) (length input-starts) ∷ [], (sliceVal (b-input-rows, o-input-rows) (length input-rows) ∷ [], (sliceVal (b-input-values, o-input-values) (length input-values) ∷ [], (vint w64 cap ∷ [], (r1 ∷ [], (sliceVal (b-list, o-list) (length «list») ∷ [], (r2 ∷ [], (sliceVal (b-permutation, o-permutation) (length permutation) ∷ [], (sliceVal (b-firsts, o-firsts) (length firsts) ∷ [], (sliceVal (b-starts, o-starts) (length starts) ∷ [], (sliceVal (b-groups, o-groups) (length groups) ∷ [], (sliceVal (b-tasks, o-tasks) (length tasks) ∷ [], (sliceVal (b-top, o-top) (length top) ∷ [], (sliceVal (b-words, o-words) (length words) ∷ [], (sliceVal (b-floats, o-floats) (length floats) ∷ [], (sliceVal (b-rows, o-rows) (length rows) ∷ [], (sliceVal (l22, 0) (length updates) ∷ [], (sliceVal (b-values, o-values) (length values) ∷ [], tt)))))))))))))))))))) (C-factor 𝓤 H A mem run .pre (((κ-input-starts, (κ-input-rows, (κ-input-values, (κ-list, (ν4-8 ∷ [], (ν4-9 ∷ [], (ν4-10 ∷ [], (ν4-11 ∷ [], (ν4-12 ∷ [], (ν4-13 ∷ [], (ν4-14 ∷ [], (ν4-15 ∷ [], (ν4-16 ∷ [], (ν4-17 ∷ [], (ν4-18 ∷ [], tt))))))))))))))), (q-input-starts, (q-input-rows, (q-input-values, (q-list, (fullShare, (fullShare, (fullShare, (fullShare, (fullShare, (fullShare, (fullShare, (fullShare, (fullShare, (fullShare, (fullShare, tt))))))))))))))), tt, (n, (ref-input-starts γ-input-starts input-starts, (ref-input-rows γ-input-rows input-rows, (ref-input-values γ-input-values input-values, (cap, (u1, (ref-list γ-list «list», (u2, (ref-permutation δ4-8 permutation, (ref-firsts δ4-9 firsts, (ref-starts δ4-10 starts, (ref-groups δ4-11 groups, (ref-tasks δ4-12 tasks, (ref-top δ4-13 top, (ref-words δ4-14 words, (ref-floats δ4-15 floats, (ref-rows δ4-16 rows, (ref-updates l22 δ4-17 updates, (ref-values δ4-18 values, tt))))))))))))))))))), (vint w64 n ∷ [], (sliceVal (b-input-starts, o-input-starts) (length input-starts) ∷ [], (sliceVal (b-input-rows, o-input-rows) (length input-rows) ∷ [], (sliceVal (b-input-values, o-input-values) (length input-values) ∷ [], (vint w64 cap ∷ [], (r1 ∷ [], (sliceVal (b-list, o-list) (length «list») ∷ [], (r2 ∷ [], (sliceVal (b-permutation, o-permutation) (length permutation) ∷ [], (sliceVal (b-firsts, o-firsts) (length firsts) ∷ [], (sliceVal (b-starts, o-starts) (length starts) ∷ [], (sliceVal (b-groups, o-groups) (length groups) ∷ [], (sliceVal (b-tasks, o-tasks) (length tasks) ∷ [], (sliceVal (b-top, o-top) (length top) ∷ [], (sliceVal (b-words, o-words) (length words) ∷ [], (sliceVal (b-floats, o-floats) (length floats) ∷ [], (sliceVal (b-rows, o-rows) (length rows) ∷ [], (sliceVal (l22, 0) (length updates) ∷ [], (sliceVal (b-values, o-values) (length values) ∷ [], tt)))))))))))))))))))), tt))
+    asked4 : (u1 : Order) (r1 : Val) (is1 : Is T-Order.the-row u1 (r1 ∷ [])) (d1 : u1 ≡ Plain) (u2 : Stop) (r2 : Val) (is2 : Is T-Stop.the-row u2 (r2 ∷ [])) (d2 : u2 ≡ End) (u3 : Update) (r3 : Val) (is3 : Is T-Update.the-row u3 (r3 ∷ [])) (d3 : u3 ≡ noUpdate) (updates : List Update) (made-updates : updates ≡ replicate 8256 u3) (size-updates : length updates ≡ 8256) (l22 : ℕ) (ν4-8 : ℕ) (δ4-8 : GName) (ν4-9 : ℕ) (δ4-9 : GName) (ν4-10 : ℕ) (δ4-10 : GName) (ν4-11 : ℕ) (δ4-11 : GName) (ν4-12 : ℕ) (δ4-12 : GName) (ν4-13 : ℕ) (δ4-13 : GName) (ν4-14 : ℕ) (δ4-14 : GName) (ν4-15 : ℕ) (δ4-15 : GName) (ν4-16 : ℕ) (δ4-16 : GName) (ν4-17 : ℕ) (δ4-17 : GName) (ν4-18 : ℕ) (δ4-18 : GName) → ent 𝓤 (onEntry 𝓤 H A f-factor.signature (κ-input-starts, (κ-input-rows, (κ-input-values, (κ-list, (ν4-8 ∷ [], (ν4-9 ∷ [], (ν4-10 ∷ [], (ν4-11 ∷ [], (ν4-12 ∷ [], (ν4-13 ∷ [], (ν4-14 ∷ [], (ν4-15 ∷ [], (ν4-16 ∷ [], (ν4-17 ∷ [], (ν4-18 ∷ [], tt))))))))))))))) (q-input-starts, (q-input-rows, (q-input-values, (q-list, (fullShare, (fullShare, (fullShare, (fullShare, (fullShare, (fullShare, (fullShare, (fullShare, (fullShare, (fullShare, (fullShare, tt))))))))))))))) (n, (ref-input-starts γ-input-starts input-starts, (ref-input-rows γ-input-rows input-rows, (ref-input-values γ-input-values input-values, (cap, (u1, (ref-list γ-list «list», (u2, (ref-permutation δ4-8 permutation, (ref-firsts δ4-9 firsts, (ref-starts δ4-10 starts, (ref-groups δ4-11 groups, (ref-tasks δ4-12 tasks, (ref-top δ4-13 top, (ref-words δ4-14 words, (ref-floats δ4-15 floats, (ref-rows δ4-16 rows, (ref-updates l22 δ4-17 updates, (ref-values δ4-18 values, tt))))))))))))))))))) (vint w64 n ∷ [], (s-input-starts ∷ [], (s-input-rows ∷ [], (s-input-values ∷ [], (vint w64 cap ∷ [], (r1 ∷ [], (s-list ∷ [], (r2 ∷ [], (s-permutation ∷ [], (s-firsts ∷ [], (s-starts ∷ [], (s-groups ∷ [], (s-tasks ∷ [], (s-top ∷ [], (s-words ∷ [], (s-floats ∷ [], (s-rows ∷ [], (sliceVal (l22, 0) (length updates) ∷ [], (s-values ∷ [], tt)))))))))))))))))))) (C-factor 𝓤 H A mem run .pre (((κ-input-starts, (κ-input-rows, (κ-input-values, (κ-list, (ν4-8 ∷ [], (ν4-9 ∷ [], (ν4-10 ∷ [], (ν4-11 ∷ [], (ν4-12 ∷ [], (ν4-13 ∷ [], (ν4-14 ∷ [], (ν4-15 ∷ [], (ν4-16 ∷ [], (ν4-17 ∷ [], (ν4-18 ∷ [], tt))))))))))))))), (q-input-starts, (q-input-rows, (q-input-values, (q-list, (fullShare, (fullShare, (fullShare, (fullShare, (fullShare, (fullShare, (fullShare, (fullShare, (fullShare, (fullShare, (fullShare, tt))))))))))))))), tt, (n, (ref-input-starts γ-input-starts input-starts, (ref-input-rows γ-input-rows input-rows, (ref-input-values γ-input-values input-values, (cap, (u1, (ref-list γ-list «list», (u2, (ref-permutation δ4-8 permutation, (ref-firsts δ4-9 firsts, (ref-starts δ4-10 starts, (ref-groups δ4-11 groups, (ref-tasks δ4-12 tasks, (ref-top δ4-13 top, (ref-words δ4-14 words, (ref-floats δ4-15 floats, (ref-rows δ4-16 rows, (ref-updates l22 δ4-17 updates, (ref-values δ4-18 values, tt))))))))))))))))))), (vint w64 n ∷ [], (s-input-starts ∷ [], (s-input-rows ∷ [], (s-input-values ∷ [], (vint w64 cap ∷ [], (r1 ∷ [], (s-list ∷ [], (r2 ∷ [], (s-permutation ∷ [], (s-firsts ∷ [], (s-starts ∷ [], (s-groups ∷ [], (s-tasks ∷ [], (s-top ∷ [], (s-words ∷ [], (s-floats ∷ [], (s-rows ∷ [], (sliceVal (l22, 0) (length updates) ∷ [], (s-values ∷ [], tt)))))))))))))))))))), tt))
     asked4 u1 r1 is1 d1 u2 r2 is2 d2 u3 r3 is3 d3 updates made-updates size-updates l22 ν4-8 δ4-8 ν4-9 δ4-9 ν4-10 δ4-10 ν4-11 δ4-11 ν4-12 δ4-12 ν4-13 δ4-13 ν4-14 δ4-14 ν4-15 δ4-15 ν4-16 δ4-16 ν4-17 δ4-17 ν4-18 δ4-18 =
-        qed W ((‵ (flft (κ-input-starts) q-input-starts) ⊛ ‵ (flft (κ-input-rows) q-input-rows) ⊛ ‵ (flft (κ-input-values) q-input-values) ⊛ ‵ (flft (κ-list) q-list) ⊛ ‵ (flft (ν4-8 ∷ []) fullShare) ⊛ ‵ (flft (ν4-9 ∷ []) fullShare) ⊛ ‵ (flft (ν4-10 ∷ []) fullShare) ⊛ ‵ (flft (ν4-11 ∷ []) fullShare) ⊛ ‵ (flft (ν4-12 ∷ []) fullShare) ⊛ ‵ (flft (ν4-13 ∷ []) fullShare) ⊛ ‵ (flft (ν4-14 ∷ []) fullShare) ⊛ ‵ (flft (ν4-15 ∷ []) fullShare) ⊛ ‵ (flft (ν4-16 ∷ []) fullShare) ⊛ ‵ (flft (ν4-17 ∷ []) fullShare) ⊛ ‵ (flft (ν4-18 ∷ []) fullShare) ⊛ ‵ ftrue) ∷ ‵ (owns (usize ∷ ShrSlice (named 0) (κ-input-starts) usize ∷ ShrSlice (named 1) (κ-input-rows) usize ∷ ShrSlice (named 2) (κ-input-values) f64 ∷ usize ∷ T-Order.the-row ∷ ShrSlice (named 3) (κ-list) usize ∷ T-Stop.the-row ∷ MutSlice (named 4) (ν4-8 ∷ []) usize ∷ MutSlice (named 5) (ν4-9 ∷ []) usize ∷ MutSlice (named 6) (ν4-10 ∷ []) usize ∷ MutSlice (named 7) (ν4-11 ∷ []) usize ∷ MutSlice (named 8) (ν4-12 ∷ []) usize ∷ MutSlice (named 9) (ν4-13 ∷ []) usize ∷ MutSlice (named 10) (ν4-14 ∷ []) usize ∷ MutSlice (named 11) (ν4-15 ∷ []) f64 ∷ MutSlice (named 12) (ν4-16 ∷ []) usize ∷ MutSlice (named 13) (ν4-17 ∷ []) T-Update.the-row ∷ MutSlice (named 14) (ν4-18 ∷ []) f64 ∷ []) (n, (ref-input-starts γ-input-starts input-starts, (ref-input-rows γ-input-rows input-rows, (ref-input-values γ-input-values input-values, (cap, (u1, (ref-list γ-list «list», (u2, (ref-permutation δ4-8 permutation, (ref-firsts δ4-9 firsts, (ref-starts δ4-10 starts, (ref-groups δ4-11 groups, (ref-tasks δ4-12 tasks, (ref-top δ4-13 top, (ref-words δ4-14 words, (ref-floats δ4-15 floats, (ref-rows δ4-16 rows, (ref-updates l22 δ4-17 updates, (ref-values δ4-18 values, tt))))))))))))))))))) (vint w64 n ∷ [], (sliceVal (b-input-starts, o-input-starts) (length input-starts) ∷ [], (sliceVal (b-input-rows, o-input-rows) (length input-rows) ∷ [], (sliceVal (b-input-values, o-input-values) (length input-values) ∷ [], (vint w64 cap ∷ [], (r1 ∷ [], (sliceVal (b-list, o-list) (length «list») ∷ [], (r2 ∷ [], (sliceVal (b-permutation, o-permutation) (length permutation) ∷ [], (sliceVal (b-firsts, o-firsts) (length firsts) ∷ [], (sliceVal (b-starts, o-starts) (length starts) ∷ [], (sliceVal (b-groups, o-groups) (length groups) ∷ [], (sliceVal (b-tasks, o-tasks) (length tasks) ∷ [], (sliceVal (b-top, o-top) (length top) ∷ [], (sliceVal (b-words, o-words) (length words) ∷ [], (sliceVal (b-floats, o-floats) (length floats) ∷ [], (sliceVal (b-rows, o-rows) (length rows) ∷ [], (sliceVal (l22, 0) (length updates) ∷ [], (sliceVal (b-values, o-values) (length values) ∷ [], tt)))))))))))))))))))) ∷ []) ∵ w-join ! $ w-frame ! $ done !
+        qed W ((‵ (flft (κ-input-starts) q-input-starts) ⊛ ‵ (flft (κ-input-rows) q-input-rows) ⊛ ‵ (flft (κ-input-values) q-input-values) ⊛ ‵ (flft (κ-list) q-list) ⊛ ‵ (flft (ν4-8 ∷ []) fullShare) ⊛ ‵ (flft (ν4-9 ∷ []) fullShare) ⊛ ‵ (flft (ν4-10 ∷ []) fullShare) ⊛ ‵ (flft (ν4-11 ∷ []) fullShare) ⊛ ‵ (flft (ν4-12 ∷ []) fullShare) ⊛ ‵ (flft (ν4-13 ∷ []) fullShare) ⊛ ‵ (flft (ν4-14 ∷ []) fullShare) ⊛ ‵ (flft (ν4-15 ∷ []) fullShare) ⊛ ‵ (flft (ν4-16 ∷ []) fullShare) ⊛ ‵ (flft (ν4-17 ∷ []) fullShare) ⊛ ‵ (flft (ν4-18 ∷ []) fullShare) ⊛ ‵ ftrue) ∷ ‵ (owns (usize ∷ ShrSlice (named 0) (κ-input-starts) usize ∷ ShrSlice (named 1) (κ-input-rows) usize ∷ ShrSlice (named 2) (κ-input-values) f64 ∷ usize ∷ T-Order.the-row ∷ ShrSlice (named 3) (κ-list) usize ∷ T-Stop.the-row ∷ MutSlice (named 4) (ν4-8 ∷ []) usize ∷ MutSlice (named 5) (ν4-9 ∷ []) usize ∷ MutSlice (named 6) (ν4-10 ∷ []) usize ∷ MutSlice (named 7) (ν4-11 ∷ []) usize ∷ MutSlice (named 8) (ν4-12 ∷ []) usize ∷ MutSlice (named 9) (ν4-13 ∷ []) usize ∷ MutSlice (named 10) (ν4-14 ∷ []) usize ∷ MutSlice (named 11) (ν4-15 ∷ []) f64 ∷ MutSlice (named 12) (ν4-16 ∷ []) usize ∷ MutSlice (named 13) (ν4-17 ∷ []) T-Update.the-row ∷ MutSlice (named 14) (ν4-18 ∷ []) f64 ∷ []) (n, (ref-input-starts γ-input-starts input-starts, (ref-input-rows γ-input-rows input-rows, (ref-input-values γ-input-values input-values, (cap, (u1, (ref-list γ-list «list», (u2, (ref-permutation δ4-8 permutation, (ref-firsts δ4-9 firsts, (ref-starts δ4-10 starts, (ref-groups δ4-11 groups, (ref-tasks δ4-12 tasks, (ref-top δ4-13 top, (ref-words δ4-14 words, (ref-floats δ4-15 floats, (ref-rows δ4-16 rows, (ref-updates l22 δ4-17 updates, (ref-values δ4-18 values, tt))))))))))))))))))) (vint w64 n ∷ [], (s-input-starts ∷ [], (s-input-rows ∷ [], (s-input-values ∷ [], (vint w64 cap ∷ [], (r1 ∷ [], (s-list ∷ [], (r2 ∷ [], (s-permutation ∷ [], (s-firsts ∷ [], (s-starts ∷ [], (s-groups ∷ [], (s-tasks ∷ [], (s-top ∷ [], (s-words ∷ [], (s-floats ∷ [], (s-rows ∷ [], (sliceVal (l22, 0) (length updates) ∷ [], (s-values ∷ [], tt)))))))))))))))))))) ∷ []) ∵ w-join ! $ w-frame ! $ done !
 
-    asked5 : (u1 : Order) (r1 : Val) (is1 : Is T-Order.the-row u1 (r1 ∷ [])) (d1 : u1 ≡ Plain) (u2 : Stop) (r2 : Val) (is2 : Is T-Stop.the-row u2 (r2 ∷ [])) (d2 : u2 ≡ End) (u3 : Update) (r3 : Val) (is3 : Is T-Update.the-row u3 (r3 ∷ [])) (d3 : u3 ≡ noUpdate) (updates : List Update) (made-updates : updates ≡ replicate 8256 u3) (size-updates : length updates ≡ 8256) (u4 : Outcome) (r4 : Val) (is4 : Is T-Outcome.the-row u4 (r4 ∷ [])) (c4-permutation : List ℕ) (c4-firsts : List ℕ) (c4-starts : List ℕ) (c4-groups : List ℕ) (c4-tasks : List ℕ) (c4-top : List ℕ) (c4-words : List ℕ) (c4-floats : List Float) (c4-rows : List ℕ) (c4-updates : List Update) (c4-values : List Float) (d4 : FactorSettles (factor (matrix n (input-starts) (input-rows) (input-values)) cap u1 («list») u2 (lentAll (length (permutation)) (length (firsts)) (length (starts)) (length (groups)) (length (tasks)) (length (top)) (length (words)) (length (floats)) (length (rows)) (length (updates)) (length (values)))) u4 (c4-permutation) (c4-firsts) (c4-starts) (c4-groups) (c4-tasks) (c4-top) (c4-words) (c4-floats) (c4-rows) (c4-updates) (c4-values)) (same4-permutation : length c4-permutation ≡ length permutation) (same4-firsts : length c4-firsts ≡ length firsts) (same4-starts : length c4-starts ≡ length starts) (same4-groups : length c4-groups ≡ length groups) (same4-tasks : length c4-tasks ≡ length tasks) (same4-top : length c4-top ≡ length top) (same4-words : length c4-words ≡ length words) (same4-floats : length c4-floats ≡ length floats) (same4-rows : length c4-rows ≡ length rows) (same4-updates : length c4-updates ≡ length updates) (same4-values : length c4-values ≡ length values) (ν5-1 : ℕ) (δ5-1 : GName) (ν5-2 : ℕ) (δ5-2 : GName) (ν5-3 : ℕ) (δ5-3 : GName) (ν5-4 : ℕ) (δ5-4 : GName) (ν5-5 : ℕ) (δ5-5 : GName) (ν5-6 : ℕ) (δ5-6 : GName) (ν5-7 : ℕ) (δ5-7 : GName) (ν5-8 : ℕ) (δ5-8 : GName) (ν5-9 : ℕ) (δ5-9 : GName) → ent 𝓤 (onEntry 𝓤 H A f-answer.signature (ν5-1 ∷ [], (ν5-2 ∷ [], (ν5-3 ∷ [], (ν5-4 ∷ [], (ν5-5 ∷ [], (ν5-6 ∷ [], (ν5-7 ∷ [], (ν5-8 ∷ [], (ν5-9 ∷ [], tt))))))))) (fullShare, (fullShare, (fullShare, (fullShare, (fullShare, (fullShare, (fullShare, (fullShare, (fullShare, tt))))))))) (u4, (ref-permutation δ5-1 c4-permutation, (ref-firsts δ5-2 c4-firsts, (ref-starts δ5-3 c4-starts, (ref-rows δ5-4 c4-rows, (ref-values δ5-5 c4-values, (ref-words δ5-6 c4-words, (ref-floats δ5-7 c4-floats, (ref-b δ5-8 b, (ref-out δ5-9 out, tt)))))))))) (r4 ∷ [], (sliceVal (b-permutation, o-permutation) (length c4-permutation) ∷ [], (sliceVal (b-firsts, o-firsts) (length c4-firsts) ∷ [], (sliceVal (b-starts, o-starts) (length c4-starts) ∷ [], (sliceVal (b-rows, o-rows) (length c4-rows) ∷ [], (sliceVal (b-values, o-values) (length c4-values) ∷ [], (sliceVal (b-words, o-words) (length c4-words) ∷ [], (sliceVal (b-floats, o-floats) (length c4-floats) ∷ [], (sliceVal (b-b, o-b) (length b) ∷ [], (s-out ∷ [], tt))))))))))) (C-answer 𝓤 H A mem run .pre (((ν5-1 ∷ [], (ν5-2 ∷ [], (ν5-3 ∷ [], (ν5-4 ∷ [], (ν5-5 ∷ [], (ν5-6 ∷ [], (ν5-7 ∷ [], (ν5-8 ∷ [], (ν5-9 ∷ [], tt))))))))), (fullShare, (fullShare, (fullShare, (fullShare, (fullShare, (fullShare, (fullShare, (fullShare, (fullShare, tt))))))))), tt, (u4, (ref-permutation δ5-1 c4-permutation, (ref-firsts δ5-2 c4-firsts, (ref-starts δ5-3 c4-starts, (ref-rows δ5-4 c4-rows, (ref-values δ5-5 c4-values, (ref-words δ5-6 c4-words, (ref-floats δ5-7 c4-floats, (ref-b δ5-8 b, (ref-out δ5-9 out, tt)))))))))), (r4 ∷ [], (sliceVal (b-permutation, o-permutation) (length c4-permutation) ∷ [], (sliceVal (b-firsts, o-firsts) (length c4-firsts) ∷ [], (sliceVal (b-starts, o-starts) (length c4-starts) ∷ [], (sliceVal (b-rows, o-rows) (length c4-rows) ∷ [], (sliceVal (b-values, o-values) (length c4-values) ∷ [], (sliceVal (b-words, o-words) (length c4-words) ∷ [], (sliceVal (b-floats, o-floats) (length c4-floats) ∷ [], (sliceVal (b-b, o-b) (length b) ∷ [], (s-out ∷ [], tt))))))))))), tt))
+    asked5 : (u1 : Order) (r1 : Val) (is1 : Is T-Order.the-row u1 (r1 ∷ [])) (d1 : u1 ≡ Plain) (u2 : Stop) (r2 : Val) (is2 : Is T-Stop.the-row u2 (r2 ∷ [])) (d2 : u2 ≡ End) (u3 : Update) (r3 : Val) (is3 : Is T-Update.the-row u3 (r3 ∷ [])) (d3 : u3 ≡ noUpdate) (updates : List Update) (made-updates : updates ≡ replicate 8256 u3) (size-updates : length updates ≡ 8256) (u4 : Outcome) (r4 : Val) (is4 : Is T-Outcome.the-row u4 (r4 ∷ [])) (c4-permutation : List ℕ) (c4-firsts : List ℕ) (c4-starts : List ℕ) (c4-groups : List ℕ) (c4-tasks : List ℕ) (c4-top : List ℕ) (c4-words : List ℕ) (c4-floats : List Float) (c4-rows : List ℕ) (c4-updates : List Update) (c4-values : List Float) (d4 : FactorSettles (factor (matrix n (input-starts) (input-rows) (input-values)) cap u1 («list») u2 (lentAll (length (permutation)) (length (firsts)) (length (starts)) (length (groups)) (length (tasks)) (length (top)) (length (words)) (length (floats)) (length (rows)) (length (updates)) (length (values)))) u4 (c4-permutation) (c4-firsts) (c4-starts) (c4-groups) (c4-tasks) (c4-top) (c4-words) (c4-floats) (c4-rows) (c4-updates) (c4-values)) (same4-permutation : length c4-permutation ≡ length permutation) (same4-firsts : length c4-firsts ≡ length firsts) (same4-starts : length c4-starts ≡ length starts) (same4-groups : length c4-groups ≡ length groups) (same4-tasks : length c4-tasks ≡ length tasks) (same4-top : length c4-top ≡ length top) (same4-words : length c4-words ≡ length words) (same4-floats : length c4-floats ≡ length floats) (same4-rows : length c4-rows ≡ length rows) (same4-updates : length c4-updates ≡ length updates) (same4-values : length c4-values ≡ length values) (ν5-1 : ℕ) (δ5-1 : GName) (ν5-2 : ℕ) (δ5-2 : GName) (ν5-3 : ℕ) (δ5-3 : GName) (ν5-4 : ℕ) (δ5-4 : GName) (ν5-5 : ℕ) (δ5-5 : GName) (ν5-6 : ℕ) (δ5-6 : GName) (ν5-7 : ℕ) (δ5-7 : GName) (ν5-8 : ℕ) (δ5-8 : GName) (ν5-9 : ℕ) (δ5-9 : GName) → ent 𝓤 (onEntry 𝓤 H A f-answer.signature (ν5-1 ∷ [], (ν5-2 ∷ [], (ν5-3 ∷ [], (ν5-4 ∷ [], (ν5-5 ∷ [], (ν5-6 ∷ [], (ν5-7 ∷ [], (ν5-8 ∷ [], (ν5-9 ∷ [], tt))))))))) (fullShare, (fullShare, (fullShare, (fullShare, (fullShare, (fullShare, (fullShare, (fullShare, (fullShare, tt))))))))) (u4, (ref-permutation δ5-1 c4-permutation, (ref-firsts δ5-2 c4-firsts, (ref-starts δ5-3 c4-starts, (ref-rows δ5-4 c4-rows, (ref-values δ5-5 c4-values, (ref-words δ5-6 c4-words, (ref-floats δ5-7 c4-floats, (ref-b δ5-8 b, (ref-out δ5-9 out, tt)))))))))) (r4 ∷ [], (s-permutation ∷ [], (s-firsts ∷ [], (s-starts ∷ [], (s-rows ∷ [], (s-values ∷ [], (s-words ∷ [], (s-floats ∷ [], (s-b ∷ [], (s-out ∷ [], tt))))))))))) (C-answer 𝓤 H A mem run .pre (((ν5-1 ∷ [], (ν5-2 ∷ [], (ν5-3 ∷ [], (ν5-4 ∷ [], (ν5-5 ∷ [], (ν5-6 ∷ [], (ν5-7 ∷ [], (ν5-8 ∷ [], (ν5-9 ∷ [], tt))))))))), (fullShare, (fullShare, (fullShare, (fullShare, (fullShare, (fullShare, (fullShare, (fullShare, (fullShare, tt))))))))), tt, (u4, (ref-permutation δ5-1 c4-permutation, (ref-firsts δ5-2 c4-firsts, (ref-starts δ5-3 c4-starts, (ref-rows δ5-4 c4-rows, (ref-values δ5-5 c4-values, (ref-words δ5-6 c4-words, (ref-floats δ5-7 c4-floats, (ref-b δ5-8 b, (ref-out δ5-9 out, tt)))))))))), (r4 ∷ [], (s-permutation ∷ [], (s-firsts ∷ [], (s-starts ∷ [], (s-rows ∷ [], (s-values ∷ [], (s-words ∷ [], (s-floats ∷ [], (s-b ∷ [], (s-out ∷ [], tt))))))))))), tt))
     asked5 u1 r1 is1 d1 u2 r2 is2 d2 u3 r3 is3 d3 updates made-updates size-updates u4 r4 is4 c4-permutation c4-firsts c4-starts c4-groups c4-tasks c4-top c4-words c4-floats c4-rows c4-updates c4-values d4 same4-permutation same4-firsts same4-starts same4-groups same4-tasks same4-top same4-words same4-floats same4-rows same4-updates same4-values ν5-1 δ5-1 ν5-2 δ5-2 ν5-3 δ5-3 ν5-4 δ5-4 ν5-5 δ5-5 ν5-6 δ5-6 ν5-7 δ5-7 ν5-8 δ5-8 ν5-9 δ5-9 =
-        let need : length (b) ≤ 128 = pre in qed W ((‵ (flft (ν5-1 ∷ []) fullShare) ⊛ ‵ (flft (ν5-2 ∷ []) fullShare) ⊛ ‵ (flft (ν5-3 ∷ []) fullShare) ⊛ ‵ (flft (ν5-4 ∷ []) fullShare) ⊛ ‵ (flft (ν5-5 ∷ []) fullShare) ⊛ ‵ (flft (ν5-6 ∷ []) fullShare) ⊛ ‵ (flft (ν5-7 ∷ []) fullShare) ⊛ ‵ (flft (ν5-8 ∷ []) fullShare) ⊛ ‵ (flft (ν5-9 ∷ []) fullShare) ⊛ ‵ ftrue) ∷ ‵ (owns (T-Outcome.the-row ∷ ShrSlice (named 0) (ν5-1 ∷ []) usize ∷ ShrSlice (named 1) (ν5-2 ∷ []) usize ∷ ShrSlice (named 2) (ν5-3 ∷ []) usize ∷ ShrSlice (named 3) (ν5-4 ∷ []) usize ∷ ShrSlice (named 4) (ν5-5 ∷ []) f64 ∷ MutSlice (named 5) (ν5-6 ∷ []) usize ∷ MutSlice (named 6) (ν5-7 ∷ []) f64 ∷ MutSlice (named 7) (ν5-8 ∷ []) f64 ∷ MutRef (named 8) (ν5-9 ∷ []) (Array u8 2959) ∷ []) (u4, (ref-permutation δ5-1 c4-permutation, (ref-firsts δ5-2 c4-firsts, (ref-starts δ5-3 c4-starts, (ref-rows δ5-4 c4-rows, (ref-values δ5-5 c4-values, (ref-words δ5-6 c4-words, (ref-floats δ5-7 c4-floats, (ref-b δ5-8 b, (ref-out δ5-9 out, tt)))))))))) (r4 ∷ [], (sliceVal (b-permutation, o-permutation) (length c4-permutation) ∷ [], (sliceVal (b-firsts, o-firsts) (length c4-firsts) ∷ [], (sliceVal (b-starts, o-starts) (length c4-starts) ∷ [], (sliceVal (b-rows, o-rows) (length c4-rows) ∷ [], (sliceVal (b-values, o-values) (length c4-values) ∷ [], (sliceVal (b-words, o-words) (length c4-words) ∷ [], (sliceVal (b-floats, o-floats) (length c4-floats) ∷ [], (sliceVal (b-b, o-b) (length b) ∷ [], (s-out ∷ [], tt))))))))))) ∷ []) ∵ w-says ! need $ w-frame ! $ done !
+        let need : length (b) ≤ 128 = pre in qed W ((‵ (flft (ν5-1 ∷ []) fullShare) ⊛ ‵ (flft (ν5-2 ∷ []) fullShare) ⊛ ‵ (flft (ν5-3 ∷ []) fullShare) ⊛ ‵ (flft (ν5-4 ∷ []) fullShare) ⊛ ‵ (flft (ν5-5 ∷ []) fullShare) ⊛ ‵ (flft (ν5-6 ∷ []) fullShare) ⊛ ‵ (flft (ν5-7 ∷ []) fullShare) ⊛ ‵ (flft (ν5-8 ∷ []) fullShare) ⊛ ‵ (flft (ν5-9 ∷ []) fullShare) ⊛ ‵ ftrue) ∷ ‵ (owns (T-Outcome.the-row ∷ ShrSlice (named 0) (ν5-1 ∷ []) usize ∷ ShrSlice (named 1) (ν5-2 ∷ []) usize ∷ ShrSlice (named 2) (ν5-3 ∷ []) usize ∷ ShrSlice (named 3) (ν5-4 ∷ []) usize ∷ ShrSlice (named 4) (ν5-5 ∷ []) f64 ∷ MutSlice (named 5) (ν5-6 ∷ []) usize ∷ MutSlice (named 6) (ν5-7 ∷ []) f64 ∷ MutSlice (named 7) (ν5-8 ∷ []) f64 ∷ MutRef (named 8) (ν5-9 ∷ []) (Array u8 2959) ∷ []) (u4, (ref-permutation δ5-1 c4-permutation, (ref-firsts δ5-2 c4-firsts, (ref-starts δ5-3 c4-starts, (ref-rows δ5-4 c4-rows, (ref-values δ5-5 c4-values, (ref-words δ5-6 c4-words, (ref-floats δ5-7 c4-floats, (ref-b δ5-8 b, (ref-out δ5-9 out, tt)))))))))) (r4 ∷ [], (s-permutation ∷ [], (s-firsts ∷ [], (s-starts ∷ [], (s-rows ∷ [], (s-values ∷ [], (s-words ∷ [], (s-floats ∷ [], (s-b ∷ [], (s-out ∷ [], tt))))))))))) ∷ []) ∵ w-says ! need $ w-frame ! $ done !
 
     module _ (l0 l1 l2 l3 l4 l5 l6 l7 l8 l9 l10 l11 l12 l13 l14 l15 l16 l17 l18 l19 l20 l21 l22 l23 l24 l25 l26 l27 l28 l29 l30 l31 l32 l33 l34 l35 l36 l37 l38 l39 l40 l41 l42 l43 l44 l45 l46 l47 l48 l49 l50 l51 l52 l53 l54 l55 l56 l57 l58 l59 l60 l61 l62 : ℕ) where
       abbrev En : Env 𝓤 H
@@ -483,58 +484,47 @@ module _ {M : Type 1} (𝓤 : URA M) (H : Heap 𝓤) (A : Atoms 𝓤) (W : Given
           w-move ! (57 ∷ []) $ w-unpack ! (‵ (froom ty46 l46 0) ∷ ‵ (froom ty47 l47 0) ∷ ‵ (froom ty48 l48 0) ∷ ‵ (froom ty49 l49 0) ∷ ‵ (froom ty50 l50 0) ∷ ‵ (froom ty51 l51 0) ∷ ‵ (froom ty52 l52 0) ∷ ‵ (froom ty53 l53 0) ∷ ‵ (froom ty54 l54 0) ∷ ‵ (froom ty55 l55 0) ∷ ‵ (froom ty56 l56 0) ∷ ‵ (froom ty57 l57 0) ∷ ‵ (froom ty58 l58 0) ∷ ‵ (froom ty59 l59 0) ∷ ‵ (froom ty60 l60 0) ∷ ‵ (froom ty61 l61 0) ∷ ‵ (froom ty62 l62 0) ∷ []) $
           w-move ! (17 ∷ 18 ∷ 19 ∷ 20 ∷ 24 ∷ 25 ∷ 26 ∷ 33 ∷ 34 ∷ 35 ∷ 36 ∷ 40 ∷ 41 ∷ 42 ∷ 51 ∷ 52 ∷ 53 ∷ 54 ∷ 55 ∷ 59 ∷ 60 ∷ 61 ∷ 68 ∷ 69 ∷ 70 ∷ 71 ∷ 73 ∷ 74 ∷ []) $ w-pack ! (‵ (ShrSlice (named 0) κ-input-starts usize .own (ref-input-starts γ-input-starts input-starts) (sliceVal (b-input-starts, o-input-starts) (length input-starts) ∷ [])) ∷ ‵ (ShrSlice (named 1) κ-input-rows usize .own (ref-input-rows γ-input-rows input-rows) (sliceVal (b-input-rows, o-input-rows) (length input-rows) ∷ [])) ∷ ‵ (ShrSlice (named 2) κ-input-values f64 .own (ref-input-values γ-input-values input-values) (sliceVal (b-input-values, o-input-values) (length input-values) ∷ [])) ∷ ‵ (ShrSlice (named 3) κ-list usize .own (ref-list γ-list «list») (sliceVal (b-list, o-list) (length «list») ∷ [])) ∷ ‵ (MutSlice (named 7) κ-groups usize .own (ref-groups γ-groups c4-groups) (sliceVal (b-groups, o-groups) (length groups) ∷ [])) ∷ ‵ (MutSlice (named 8) κ-tasks usize .own (ref-tasks γ-tasks c4-tasks) (sliceVal (b-tasks, o-tasks) (length tasks) ∷ [])) ∷ ‵ (MutSlice (named 9) κ-top usize .own (ref-top γ-top c4-top) (sliceVal (b-top, o-top) (length top) ∷ [])) ∷ ‵ (flft κ-input-starts q-input-starts) ∷ ‵ (flft κ-input-rows q-input-rows) ∷ ‵ (flft κ-input-values q-input-values) ∷ ‵ (flft κ-list q-list) ∷ ‵ (flft κ-groups q-groups) ∷ ‵ (flft κ-tasks q-tasks) ∷ ‵ (flft κ-top q-top) ∷ ‵ (fat fullShare ty2 l2 0 s-input-starts) ∷ ‵ (fat fullShare ty3 l3 0 s-input-rows) ∷ ‵ (fat fullShare ty4 l4 0 s-input-values) ∷ ‵ (fat fullShare ty5 l5 0 (vint w64 cap)) ∷ ‵ (fat fullShare ty6 l6 0 s-list) ∷ ‵ (fat fullShare ty10 l10 0 s-groups) ∷ ‵ (fat fullShare ty11 l11 0 s-tasks) ∷ ‵ (fat fullShare ty12 l12 0 s-top) ∷ ‵ (fat fullShare ty19 l19 0 r1) ∷ ‵ (fat fullShare ty20 l20 0 r2) ∷ ‵ (fat fullShare ty21 l21 0 r3) ∷ ‵ (Lies T-Update.the-row 8256 l22 0 c4-updates) ∷ raw (Packed 𝓤 H A spare4) ∷ raw (Packed 𝓤 H A dying) ∷ []) $
           w-assigns ! (w-addr ! (w-from ! (w-fld ! refl (w-hop ! (w-look-in ! 38 (w-sub ! 0 refl (w-whole !))) (w-stop !))))) (w-from ! (w-stop !)) (w-init ! 1 refl (tt, tt)) $ w-assigns ! (w-agg ! (w-and-then ! (w-load ! (w-from ! (w-stop !)) (w-look ! 1 refl)) (w-and-then ! (w-load ! (w-from ! (w-fld ! refl (w-stop !))) (w-look-in ! 38 (w-sub ! 1 refl (w-whole !)))) (w-no-more !)))) (w-from ! (w-stop !)) (w-init ! 2 refl (tt, (tt, (record { fits = room-permutation .0 }, tt)))) $
-          w-rewrite ! 2 (λ (m : ℕ). ‵ (fat fullShare ty47 l47 0 (sliceVal (b-permutation, o-permutation) m))) (sym same4-permutation) refl $
           w-assigns ! (w-addr ! (w-from ! (w-fld ! refl (w-hop ! (w-look-in ! 39 (w-sub ! 0 refl (w-whole !))) (w-stop !))))) (w-from ! (w-stop !)) (w-init ! 3 refl (tt, tt)) $ w-assigns ! (w-agg ! (w-and-then ! (w-load ! (w-from ! (w-stop !)) (w-look ! 3 refl)) (w-and-then ! (w-load ! (w-from ! (w-fld ! refl (w-stop !))) (w-look-in ! 39 (w-sub ! 1 refl (w-whole !)))) (w-no-more !)))) (w-from ! (w-stop !)) (w-init ! 4 refl (tt, (tt, (record { fits = room-firsts .0 }, tt)))) $
-          w-rewrite ! 4 (λ (m : ℕ). ‵ (fat fullShare ty49 l49 0 (sliceVal (b-firsts, o-firsts) m))) (sym same4-firsts) refl $
           w-assigns ! (w-addr ! (w-from ! (w-fld ! refl (w-hop ! (w-look-in ! 40 (w-sub ! 0 refl (w-whole !))) (w-stop !))))) (w-from ! (w-stop !)) (w-init ! 5 refl (tt, tt)) $ w-assigns ! (w-agg ! (w-and-then ! (w-load ! (w-from ! (w-stop !)) (w-look ! 5 refl)) (w-and-then ! (w-load ! (w-from ! (w-fld ! refl (w-stop !))) (w-look-in ! 40 (w-sub ! 1 refl (w-whole !)))) (w-no-more !)))) (w-from ! (w-stop !)) (w-init ! 6 refl (tt, (tt, (record { fits = room-starts .0 }, tt)))) $
-          w-rewrite ! 6 (λ (m : ℕ). ‵ (fat fullShare ty51 l51 0 (sliceVal (b-starts, o-starts) m))) (sym same4-starts) refl $
           w-assigns ! (w-addr ! (w-from ! (w-fld ! refl (w-hop ! (w-look-in ! 43 (w-sub ! 0 refl (w-whole !))) (w-stop !))))) (w-from ! (w-stop !)) (w-init ! 7 refl (tt, tt)) $ w-assigns ! (w-agg ! (w-and-then ! (w-load ! (w-from ! (w-stop !)) (w-look ! 7 refl)) (w-and-then ! (w-load ! (w-from ! (w-fld ! refl (w-stop !))) (w-look-in ! 43 (w-sub ! 1 refl (w-whole !)))) (w-no-more !)))) (w-from ! (w-stop !)) (w-init ! 8 refl (tt, (tt, (record { fits = room-rows .0 }, tt)))) $
-          w-rewrite ! 8 (λ (m : ℕ). ‵ (fat fullShare ty53 l53 0 (sliceVal (b-rows, o-rows) m))) (sym same4-rows) refl $
           w-assigns ! (w-addr ! (w-from ! (w-fld ! refl (w-hop ! (w-look-in ! 44 (w-sub ! 0 refl (w-whole !))) (w-stop !))))) (w-from ! (w-stop !)) (w-init ! 9 refl (tt, tt)) $ w-assigns ! (w-agg ! (w-and-then ! (w-load ! (w-from ! (w-stop !)) (w-look ! 9 refl)) (w-and-then ! (w-load ! (w-from ! (w-fld ! refl (w-stop !))) (w-look-in ! 44 (w-sub ! 1 refl (w-whole !)))) (w-no-more !)))) (w-from ! (w-stop !)) (w-init ! 10 refl (tt, (tt, (record { fits = room-values .0 }, tt)))) $
-          w-rewrite ! 10 (λ (m : ℕ). ‵ (fat fullShare ty55 l55 0 (sliceVal (b-values, o-values) m))) (sym same4-values) refl $
           w-assigns ! (w-addr ! (w-from ! (w-fld ! refl (w-hop ! (w-look-in ! 41 (w-sub ! 0 refl (w-whole !))) (w-stop !))))) (w-from ! (w-stop !)) (w-init ! 11 refl (tt, tt)) $ w-assigns ! (w-agg ! (w-and-then ! (w-load ! (w-from ! (w-stop !)) (w-look ! 11 refl)) (w-and-then ! (w-load ! (w-from ! (w-fld ! refl (w-stop !))) (w-look-in ! 41 (w-sub ! 1 refl (w-whole !)))) (w-no-more !)))) (w-from ! (w-stop !)) (w-init ! 12 refl (tt, (tt, (record { fits = room-words .0 }, tt)))) $
-          w-rewrite ! 12 (λ (m : ℕ). ‵ (fat fullShare ty57 l57 0 (sliceVal (b-words, o-words) m))) (sym same4-words) refl $
           w-assigns ! (w-addr ! (w-from ! (w-fld ! refl (w-hop ! (w-look-in ! 42 (w-sub ! 0 refl (w-whole !))) (w-stop !))))) (w-from ! (w-stop !)) (w-init ! 13 refl (tt, tt)) $ w-assigns ! (w-agg ! (w-and-then ! (w-load ! (w-from ! (w-stop !)) (w-look ! 13 refl)) (w-and-then ! (w-load ! (w-from ! (w-fld ! refl (w-stop !))) (w-look-in ! 42 (w-sub ! 1 refl (w-whole !)))) (w-no-more !)))) (w-from ! (w-stop !)) (w-init ! 14 refl (tt, (tt, (record { fits = room-floats .0 }, tt)))) $
-          w-rewrite ! 14 (λ (m : ℕ). ‵ (fat fullShare ty59 l59 0 (sliceVal (b-floats, o-floats) m))) (sym same4-floats) refl $
           w-assigns ! (w-addr ! (w-from ! (w-fld ! refl (w-hop ! (w-look-in ! 45 (w-sub ! 0 refl (w-whole !))) (w-stop !))))) (w-from ! (w-stop !)) (w-init ! 15 refl (tt, tt)) $ w-assigns ! (w-agg ! (w-and-then ! (w-load ! (w-from ! (w-stop !)) (w-look ! 15 refl)) (w-and-then ! (w-load ! (w-from ! (w-fld ! refl (w-stop !))) (w-look-in ! 45 (w-sub ! 1 refl (w-whole !)))) (w-no-more !)))) (w-from ! (w-stop !)) (w-init ! 16 refl (tt, (tt, (record { fits = room-b .0 }, tt)))) $
           w-assigns ! (w-addr ! (w-from ! (w-hop ! (w-look ! 46 refl) (w-stop !)))) (w-from ! (w-stop !)) (w-init ! 17 refl (tt, tt)) $
-          w-lft-new ! tt (λ ν5-1. w-rewrite ! 19 (λ (m : ℕ). ‵ (MutSlice (named 4) κ-permutation usize .own (ref-permutation γ-permutation c4-permutation) (sliceVal (b-permutation, o-permutation) m ∷ []))) (sym same4-permutation) refl $ w-move ! (19 ∷ 28 ∷ []) $ use2 W (later (some (λ (δ : GName). ‵ (ShrSlice (named 0) (ν5-1 ∷ []) usize .own (ref-permutation δ c4-permutation) (sliceVal (b-permutation, o-permutation) (length c4-permutation) ∷ [])) ⊛ ‵ (LentShared usize κ-permutation (ν5-1 ∷ []) q-permutation γ-permutation b-permutation o-permutation c4-permutation)))) (lends-shared usize κ-permutation (ν5-1 ∷ []) q-permutation γ-permutation b-permutation o-permutation 𝓤 H A W (named 4) (named 0) c4-permutation) $ w-await ! tt $ w-pick ! (λ δ5-1. w-split ! $
-          w-lft-new ! tt (λ ν5-2. w-rewrite ! 22 (λ (m : ℕ). ‵ (MutSlice (named 5) κ-firsts usize .own (ref-firsts γ-firsts c4-firsts) (sliceVal (b-firsts, o-firsts) m ∷ []))) (sym same4-firsts) refl $ w-move ! (22 ∷ 30 ∷ []) $ use2 W (later (some (λ (δ : GName). ‵ (ShrSlice (named 1) (ν5-2 ∷ []) usize .own (ref-firsts δ c4-firsts) (sliceVal (b-firsts, o-firsts) (length c4-firsts) ∷ [])) ⊛ ‵ (LentShared usize κ-firsts (ν5-2 ∷ []) q-firsts γ-firsts b-firsts o-firsts c4-firsts)))) (lends-shared usize κ-firsts (ν5-2 ∷ []) q-firsts γ-firsts b-firsts o-firsts 𝓤 H A W (named 5) (named 1) c4-firsts) $ w-await ! tt $ w-pick ! (λ δ5-2. w-split ! $
-          w-lft-new ! tt (λ ν5-3. w-rewrite ! 25 (λ (m : ℕ). ‵ (MutSlice (named 6) κ-starts usize .own (ref-starts γ-starts c4-starts) (sliceVal (b-starts, o-starts) m ∷ []))) (sym same4-starts) refl $ w-move ! (25 ∷ 32 ∷ []) $ use2 W (later (some (λ (δ : GName). ‵ (ShrSlice (named 2) (ν5-3 ∷ []) usize .own (ref-starts δ c4-starts) (sliceVal (b-starts, o-starts) (length c4-starts) ∷ [])) ⊛ ‵ (LentShared usize κ-starts (ν5-3 ∷ []) q-starts γ-starts b-starts o-starts c4-starts)))) (lends-shared usize κ-starts (ν5-3 ∷ []) q-starts γ-starts b-starts o-starts 𝓤 H A W (named 6) (named 2) c4-starts) $ w-await ! tt $ w-pick ! (λ δ5-3. w-split ! $
-          w-lft-new ! tt (λ ν5-4. w-rewrite ! 30 (λ (m : ℕ). ‵ (MutSlice (named 12) κ-rows usize .own (ref-rows γ-rows c4-rows) (sliceVal (b-rows, o-rows) m ∷ []))) (sym same4-rows) refl $ w-move ! (30 ∷ 36 ∷ []) $ use2 W (later (some (λ (δ : GName). ‵ (ShrSlice (named 3) (ν5-4 ∷ []) usize .own (ref-rows δ c4-rows) (sliceVal (b-rows, o-rows) (length c4-rows) ∷ [])) ⊛ ‵ (LentShared usize κ-rows (ν5-4 ∷ []) q-rows γ-rows b-rows o-rows c4-rows)))) (lends-shared usize κ-rows (ν5-4 ∷ []) q-rows γ-rows b-rows o-rows 𝓤 H A W (named 12) (named 3) c4-rows) $ w-await ! tt $ w-pick ! (λ δ5-4. w-split ! $
-          w-lft-new ! tt (λ ν5-5. w-rewrite ! 33 (λ (m : ℕ). ‵ (MutSlice (named 13) κ-values f64 .own (ref-values γ-values c4-values) (sliceVal (b-values, o-values) m ∷ []))) (sym same4-values) refl $ w-move ! (33 ∷ 38 ∷ []) $ use2 W (later (some (λ (δ : GName). ‵ (ShrSlice (named 4) (ν5-5 ∷ []) f64 .own (ref-values δ c4-values) (sliceVal (b-values, o-values) (length c4-values) ∷ [])) ⊛ ‵ (LentShared f64 κ-values (ν5-5 ∷ []) q-values γ-values b-values o-values c4-values)))) (lends-shared f64 κ-values (ν5-5 ∷ []) q-values γ-values b-values o-values 𝓤 H A W (named 13) (named 4) c4-values) $ w-await ! tt $ w-pick ! (λ δ5-5. w-split ! $
-          w-lft-new ! tt (λ ν5-6. w-rewrite ! 34 (λ (m : ℕ). ‵ (MutSlice (named 10) κ-words usize .own (ref-words γ-words c4-words) (sliceVal (b-words, o-words) m ∷ []))) (sym same4-words) refl $ w-move ! (34 ∷ 38 ∷ []) $ use2 W (later (some (λ (δ : GName). ‵ (MutSlice (named 5) (ν5-6 ∷ []) usize .own (ref-words δ c4-words) (sliceVal (b-words, o-words) (length c4-words) ∷ [])) ⊛ ‵ (LentAgain usize κ-words (ν5-6 ∷ []) q-words γ-words b-words o-words δ c4-words)))) (lends-again usize κ-words (ν5-6 ∷ []) q-words γ-words b-words o-words 𝓤 H A W (named 10) (named 5) c4-words) $ w-await ! tt $ w-pick ! (λ δ5-6. w-split ! $
-          w-lft-new ! tt (λ ν5-7. w-rewrite ! 37 (λ (m : ℕ). ‵ (MutSlice (named 11) κ-floats f64 .own (ref-floats γ-floats c4-floats) (sliceVal (b-floats, o-floats) m ∷ []))) (sym same4-floats) refl $ w-move ! (37 ∷ 40 ∷ []) $ use2 W (later (some (λ (δ : GName). ‵ (MutSlice (named 6) (ν5-7 ∷ []) f64 .own (ref-floats δ c4-floats) (sliceVal (b-floats, o-floats) (length c4-floats) ∷ [])) ⊛ ‵ (LentAgain f64 κ-floats (ν5-7 ∷ []) q-floats γ-floats b-floats o-floats δ c4-floats)))) (lends-again f64 κ-floats (ν5-7 ∷ []) q-floats γ-floats b-floats o-floats 𝓤 H A W (named 11) (named 6) c4-floats) $ w-await ! tt $ w-pick ! (λ δ5-7. w-split ! $
-          w-lft-new ! tt (λ ν5-8. w-move ! (40 ∷ 42 ∷ []) $ use2 W (later (some (λ (δ : GName). ‵ (MutSlice (named 7) (ν5-8 ∷ []) f64 .own (ref-b δ b) (sliceVal (b-b, o-b) (length b) ∷ [])) ⊛ ‵ (LentAgain f64 κ-b (ν5-8 ∷ []) q-b γ-b b-b o-b δ b)))) (lends-again f64 κ-b (ν5-8 ∷ []) q-b γ-b b-b o-b 𝓤 H A W (named 14) (named 7) b) $ w-await ! tt $ w-pick ! (λ δ5-8. w-split ! $
+          w-move ! (18 ∷ 27 ∷ []) $ w-show ! tt usize κ-permutation q-permutation γ-permutation b-permutation o-permutation (named 4) (named 0) c4-permutation (length permutation) same4-permutation (λ ν5-1 δ5-1.
+          w-move ! (21 ∷ 29 ∷ []) $ w-show ! tt usize κ-firsts q-firsts γ-firsts b-firsts o-firsts (named 5) (named 1) c4-firsts (length firsts) same4-firsts (λ ν5-2 δ5-2.
+          w-move ! (24 ∷ 31 ∷ []) $ w-show ! tt usize κ-starts q-starts γ-starts b-starts o-starts (named 6) (named 2) c4-starts (length starts) same4-starts (λ ν5-3 δ5-3.
+          w-written ! (‵ (ShrSlice (named 2) (ν5-3 ∷ []) usize .own (ref-starts δ5-3 c4-starts) (s-starts ∷ [])) ∷ ‵ (LentShared usize κ-starts (ν5-3 ∷ []) q-starts γ-starts b-starts o-starts c4-starts) ∷ ‵ (flft (ν5-3 ∷ []) fullShare) ∷ ‵ (ShrSlice (named 1) (ν5-2 ∷ []) usize .own (ref-firsts δ5-2 c4-firsts) (s-firsts ∷ [])) ∷ ‵ (LentShared usize κ-firsts (ν5-2 ∷ []) q-firsts γ-firsts b-firsts o-firsts c4-firsts) ∷ ‵ (flft (ν5-2 ∷ []) fullShare) ∷ ‵ (ShrSlice (named 0) (ν5-1 ∷ []) usize .own (ref-permutation δ5-1 c4-permutation) (s-permutation ∷ [])) ∷ ‵ (LentShared usize κ-permutation (ν5-1 ∷ []) q-permutation γ-permutation b-permutation o-permutation c4-permutation) ∷ ‵ (flft (ν5-1 ∷ []) fullShare) ∷ raw (Packed 𝓤 H A (‵ (ShrSlice (named 0) κ-input-starts usize .own (ref-input-starts γ-input-starts input-starts) (sliceVal (b-input-starts, o-input-starts) (length input-starts) ∷ [])) ∷ ‵ (ShrSlice (named 1) κ-input-rows usize .own (ref-input-rows γ-input-rows input-rows) (sliceVal (b-input-rows, o-input-rows) (length input-rows) ∷ [])) ∷ ‵ (ShrSlice (named 2) κ-input-values f64 .own (ref-input-values γ-input-values input-values) (sliceVal (b-input-values, o-input-values) (length input-values) ∷ [])) ∷ ‵ (ShrSlice (named 3) κ-list usize .own (ref-list γ-list «list») (sliceVal (b-list, o-list) (length «list») ∷ [])) ∷ ‵ (MutSlice (named 7) κ-groups usize .own (ref-groups γ-groups c4-groups) (sliceVal (b-groups, o-groups) (length groups) ∷ [])) ∷ ‵ (MutSlice (named 8) κ-tasks usize .own (ref-tasks γ-tasks c4-tasks) (sliceVal (b-tasks, o-tasks) (length tasks) ∷ [])) ∷ ‵ (MutSlice (named 9) κ-top usize .own (ref-top γ-top c4-top) (sliceVal (b-top, o-top) (length top) ∷ [])) ∷ ‵ (flft κ-input-starts q-input-starts) ∷ ‵ (flft κ-input-rows q-input-rows) ∷ ‵ (flft κ-input-values q-input-values) ∷ ‵ (flft κ-list q-list) ∷ ‵ (flft κ-groups q-groups) ∷ ‵ (flft κ-tasks q-tasks) ∷ ‵ (flft κ-top q-top) ∷ ‵ (fat fullShare ty2 l2 0 s-input-starts) ∷ ‵ (fat fullShare ty3 l3 0 s-input-rows) ∷ ‵ (fat fullShare ty4 l4 0 s-input-values) ∷ ‵ (fat fullShare ty5 l5 0 (vint w64 cap)) ∷ ‵ (fat fullShare ty6 l6 0 s-list) ∷ ‵ (fat fullShare ty10 l10 0 s-groups) ∷ ‵ (fat fullShare ty11 l11 0 s-tasks) ∷ ‵ (fat fullShare ty12 l12 0 s-top) ∷ ‵ (fat fullShare ty19 l19 0 r1) ∷ ‵ (fat fullShare ty20 l20 0 r2) ∷ ‵ (fat fullShare ty21 l21 0 r3) ∷ ‵ (Lies T-Update.the-row 8256 l22 0 c4-updates) ∷ raw (Packed 𝓤 H A spare4) ∷ raw (Packed 𝓤 H A dying) ∷ [])) ∷ ‵ (fat fullShare ty46 l46 0 (vptr b-permutation o-permutation)) ∷ ‵ (fat fullShare ty47 l47 0 s-permutation) ∷ ‵ (fat fullShare ty48 l48 0 (vptr b-firsts o-firsts)) ∷ ‵ (fat fullShare ty49 l49 0 s-firsts) ∷ ‵ (fat fullShare ty50 l50 0 (vptr b-starts o-starts)) ∷ ‵ (fat fullShare ty51 l51 0 s-starts) ∷ ‵ (fat fullShare ty52 l52 0 (vptr b-rows o-rows)) ∷ ‵ (fat fullShare ty53 l53 0 s-rows) ∷ ‵ (fat fullShare ty54 l54 0 (vptr b-values o-values)) ∷ ‵ (fat fullShare ty55 l55 0 s-values) ∷ ‵ (fat fullShare ty56 l56 0 (vptr b-words o-words)) ∷ ‵ (fat fullShare ty57 l57 0 s-words) ∷ ‵ (fat fullShare ty58 l58 0 (vptr b-floats o-floats)) ∷ ‵ (fat fullShare ty59 l59 0 s-floats) ∷ ‵ (fat fullShare ty60 l60 0 (vptr b-b o-b)) ∷ ‵ (fat fullShare ty61 l61 0 s-b) ∷ ‵ (fat fullShare ty62 l62 0 s-out) ∷ ‵ (MutSlice (named 10) κ-words usize .own (ref-words γ-words c4-words) (sliceVal (b-words, o-words) (length words) ∷ [])) ∷ ‵ (MutSlice (named 11) κ-floats f64 .own (ref-floats γ-floats c4-floats) (sliceVal (b-floats, o-floats) (length floats) ∷ [])) ∷ ‵ (MutSlice (named 12) κ-rows usize .own (ref-rows γ-rows c4-rows) (sliceVal (b-rows, o-rows) (length rows) ∷ [])) ∷ ‵ (MutSlice (named 13) κ-values f64 .own (ref-values γ-values c4-values) (sliceVal (b-values, o-values) (length values) ∷ [])) ∷ ‵ (MutSlice (named 14) κ-b f64 .own (ref-b γ-b b) (sliceVal (b-b, o-b) (length b) ∷ [])) ∷ ‵ (MutRef (named 15) κ-out (Array u8 2959) .own (ref-out γ-out out) (s-out ∷ [])) ∷ ‵ (flft κ-words q-words) ∷ ‵ (flft κ-floats q-floats) ∷ ‵ (flft κ-rows q-rows) ∷ ‵ (flft κ-values q-values) ∷ ‵ (flft κ-b q-b) ∷ ‵ (flft κ-out q-out) ∷ ‵ (froom ty0 l0 0) ∷ ‵ (fat fullShare ty1 l1 0 (vint w64 n)) ∷ ‵ (fat fullShare ty7 l7 0 s-permutation) ∷ ‵ (fat fullShare ty8 l8 0 s-firsts) ∷ ‵ (fat fullShare ty9 l9 0 s-starts) ∷ ‵ (fat fullShare ty13 l13 0 s-words) ∷ ‵ (fat fullShare ty14 l14 0 s-floats) ∷ ‵ (fat fullShare ty15 l15 0 s-rows) ∷ ‵ (fat fullShare ty16 l16 0 s-values) ∷ ‵ (fat fullShare ty17 l17 0 s-b) ∷ ‵ (fat fullShare ty18 l18 0 s-out) ∷ ‵ (fat fullShare ty23 l23 0 r4) ∷ []) $
+          w-move ! (29 ∷ 35 ∷ []) $ w-show ! tt usize κ-rows q-rows γ-rows b-rows o-rows (named 12) (named 3) c4-rows (length rows) same4-rows (λ ν5-4 δ5-4.
+          w-move ! (32 ∷ 37 ∷ []) $ w-show ! tt f64 κ-values q-values γ-values b-values o-values (named 13) (named 4) c4-values (length values) same4-values (λ ν5-5 δ5-5.
+          w-move ! (33 ∷ 37 ∷ []) $ w-lend ! tt usize κ-words q-words γ-words b-words o-words (named 10) (named 5) c4-words (length words) same4-words (λ ν5-6 δ5-6.
+          w-written ! (‵ (MutSlice (named 5) (ν5-6 ∷ []) usize .own (ref-words δ5-6 c4-words) (s-words ∷ [])) ∷ ‵ (LentAgain usize κ-words (ν5-6 ∷ []) q-words γ-words b-words o-words δ5-6 c4-words) ∷ ‵ (flft (ν5-6 ∷ []) fullShare) ∷ ‵ (ShrSlice (named 4) (ν5-5 ∷ []) f64 .own (ref-values δ5-5 c4-values) (s-values ∷ [])) ∷ ‵ (LentShared f64 κ-values (ν5-5 ∷ []) q-values γ-values b-values o-values c4-values) ∷ ‵ (flft (ν5-5 ∷ []) fullShare) ∷ ‵ (ShrSlice (named 3) (ν5-4 ∷ []) usize .own (ref-rows δ5-4 c4-rows) (s-rows ∷ [])) ∷ ‵ (LentShared usize κ-rows (ν5-4 ∷ []) q-rows γ-rows b-rows o-rows c4-rows) ∷ ‵ (flft (ν5-4 ∷ []) fullShare) ∷ ‵ (ShrSlice (named 2) (ν5-3 ∷ []) usize .own (ref-starts δ5-3 c4-starts) (s-starts ∷ [])) ∷ ‵ (LentShared usize κ-starts (ν5-3 ∷ []) q-starts γ-starts b-starts o-starts c4-starts) ∷ ‵ (flft (ν5-3 ∷ []) fullShare) ∷ ‵ (ShrSlice (named 1) (ν5-2 ∷ []) usize .own (ref-firsts δ5-2 c4-firsts) (s-firsts ∷ [])) ∷ ‵ (LentShared usize κ-firsts (ν5-2 ∷ []) q-firsts γ-firsts b-firsts o-firsts c4-firsts) ∷ ‵ (flft (ν5-2 ∷ []) fullShare) ∷ ‵ (ShrSlice (named 0) (ν5-1 ∷ []) usize .own (ref-permutation δ5-1 c4-permutation) (s-permutation ∷ [])) ∷ ‵ (LentShared usize κ-permutation (ν5-1 ∷ []) q-permutation γ-permutation b-permutation o-permutation c4-permutation) ∷ ‵ (flft (ν5-1 ∷ []) fullShare) ∷ raw (Packed 𝓤 H A (‵ (ShrSlice (named 0) κ-input-starts usize .own (ref-input-starts γ-input-starts input-starts) (sliceVal (b-input-starts, o-input-starts) (length input-starts) ∷ [])) ∷ ‵ (ShrSlice (named 1) κ-input-rows usize .own (ref-input-rows γ-input-rows input-rows) (sliceVal (b-input-rows, o-input-rows) (length input-rows) ∷ [])) ∷ ‵ (ShrSlice (named 2) κ-input-values f64 .own (ref-input-values γ-input-values input-values) (sliceVal (b-input-values, o-input-values) (length input-values) ∷ [])) ∷ ‵ (ShrSlice (named 3) κ-list usize .own (ref-list γ-list «list») (sliceVal (b-list, o-list) (length «list») ∷ [])) ∷ ‵ (MutSlice (named 7) κ-groups usize .own (ref-groups γ-groups c4-groups) (sliceVal (b-groups, o-groups) (length groups) ∷ [])) ∷ ‵ (MutSlice (named 8) κ-tasks usize .own (ref-tasks γ-tasks c4-tasks) (sliceVal (b-tasks, o-tasks) (length tasks) ∷ [])) ∷ ‵ (MutSlice (named 9) κ-top usize .own (ref-top γ-top c4-top) (sliceVal (b-top, o-top) (length top) ∷ [])) ∷ ‵ (flft κ-input-starts q-input-starts) ∷ ‵ (flft κ-input-rows q-input-rows) ∷ ‵ (flft κ-input-values q-input-values) ∷ ‵ (flft κ-list q-list) ∷ ‵ (flft κ-groups q-groups) ∷ ‵ (flft κ-tasks q-tasks) ∷ ‵ (flft κ-top q-top) ∷ ‵ (fat fullShare ty2 l2 0 s-input-starts) ∷ ‵ (fat fullShare ty3 l3 0 s-input-rows) ∷ ‵ (fat fullShare ty4 l4 0 s-input-values) ∷ ‵ (fat fullShare ty5 l5 0 (vint w64 cap)) ∷ ‵ (fat fullShare ty6 l6 0 s-list) ∷ ‵ (fat fullShare ty10 l10 0 s-groups) ∷ ‵ (fat fullShare ty11 l11 0 s-tasks) ∷ ‵ (fat fullShare ty12 l12 0 s-top) ∷ ‵ (fat fullShare ty19 l19 0 r1) ∷ ‵ (fat fullShare ty20 l20 0 r2) ∷ ‵ (fat fullShare ty21 l21 0 r3) ∷ ‵ (Lies T-Update.the-row 8256 l22 0 c4-updates) ∷ raw (Packed 𝓤 H A spare4) ∷ raw (Packed 𝓤 H A dying) ∷ [])) ∷ ‵ (fat fullShare ty46 l46 0 (vptr b-permutation o-permutation)) ∷ ‵ (fat fullShare ty47 l47 0 s-permutation) ∷ ‵ (fat fullShare ty48 l48 0 (vptr b-firsts o-firsts)) ∷ ‵ (fat fullShare ty49 l49 0 s-firsts) ∷ ‵ (fat fullShare ty50 l50 0 (vptr b-starts o-starts)) ∷ ‵ (fat fullShare ty51 l51 0 s-starts) ∷ ‵ (fat fullShare ty52 l52 0 (vptr b-rows o-rows)) ∷ ‵ (fat fullShare ty53 l53 0 s-rows) ∷ ‵ (fat fullShare ty54 l54 0 (vptr b-values o-values)) ∷ ‵ (fat fullShare ty55 l55 0 s-values) ∷ ‵ (fat fullShare ty56 l56 0 (vptr b-words o-words)) ∷ ‵ (fat fullShare ty57 l57 0 s-words) ∷ ‵ (fat fullShare ty58 l58 0 (vptr b-floats o-floats)) ∷ ‵ (fat fullShare ty59 l59 0 s-floats) ∷ ‵ (fat fullShare ty60 l60 0 (vptr b-b o-b)) ∷ ‵ (fat fullShare ty61 l61 0 s-b) ∷ ‵ (fat fullShare ty62 l62 0 s-out) ∷ ‵ (MutSlice (named 11) κ-floats f64 .own (ref-floats γ-floats c4-floats) (sliceVal (b-floats, o-floats) (length floats) ∷ [])) ∷ ‵ (MutSlice (named 14) κ-b f64 .own (ref-b γ-b b) (sliceVal (b-b, o-b) (length b) ∷ [])) ∷ ‵ (MutRef (named 15) κ-out (Array u8 2959) .own (ref-out γ-out out) (s-out ∷ [])) ∷ ‵ (flft κ-floats q-floats) ∷ ‵ (flft κ-b q-b) ∷ ‵ (flft κ-out q-out) ∷ ‵ (froom ty0 l0 0) ∷ ‵ (fat fullShare ty1 l1 0 (vint w64 n)) ∷ ‵ (fat fullShare ty7 l7 0 s-permutation) ∷ ‵ (fat fullShare ty8 l8 0 s-firsts) ∷ ‵ (fat fullShare ty9 l9 0 s-starts) ∷ ‵ (fat fullShare ty13 l13 0 s-words) ∷ ‵ (fat fullShare ty14 l14 0 s-floats) ∷ ‵ (fat fullShare ty15 l15 0 s-rows) ∷ ‵ (fat fullShare ty16 l16 0 s-values) ∷ ‵ (fat fullShare ty17 l17 0 s-b) ∷ ‵ (fat fullShare ty18 l18 0 s-out) ∷ ‵ (fat fullShare ty23 l23 0 r4) ∷ []) $
+          w-move ! (36 ∷ 39 ∷ []) $ w-lend ! tt f64 κ-floats q-floats γ-floats b-floats o-floats (named 11) (named 6) c4-floats (length floats) same4-floats (λ ν5-7 δ5-7.
+          w-move ! (39 ∷ 41 ∷ []) $ w-lend ! tt f64 κ-b q-b γ-b b-b o-b (named 14) (named 7) b (length b) refl (λ ν5-8 δ5-8.
           w-lft-new ! tt (λ ν5-9. w-move ! (43 ∷ 44 ∷ []) $ use2 W (later (some (λ (δ : GName). ‵ (MutRef (named 8) (ν5-9 ∷ []) (Array u8 2959) .own (ref-out δ out) (s-out ∷ [])) ⊛ ‵ (LentRef (Array u8 2959) κ-out (ν5-9 ∷ []) q-out γ-out b-out o-out δ out)))) (lends-ref-again 𝓤 H A W (Array u8 2959) (named 15) κ-out (ν5-9 ∷ []) q-out γ-out b-out o-out (named 8) out) $ w-await ! tt $ w-pick ! (λ δ5-9. w-split ! $
           w-nothing ! $ w-move ! (1 ∷ 0 ∷ []) $ w-fjoin ! $ w-move ! (3 ∷ 0 ∷ []) $ w-fjoin ! $ w-move ! (5 ∷ 0 ∷ []) $ w-fjoin ! $ w-move ! (7 ∷ 0 ∷ []) $ w-fjoin ! $ w-move ! (9 ∷ 0 ∷ []) $ w-fjoin ! $ w-move ! (11 ∷ 0 ∷ []) $ w-fjoin ! $ w-move ! (13 ∷ 0 ∷ []) $ w-fjoin ! $ w-move ! (15 ∷ 0 ∷ []) $ w-fjoin ! $ w-move ! (17 ∷ 0 ∷ []) $ w-fjoin ! $ w-owned ! T-Outcome.the-row (Is T-Outcome.the-row) (LL.makes T-Outcome.the-type L-Outcome.the-plain 𝓤 H A) u4 _ is4 $ w-fjoin ! $
           w-nothing ! $ w-move ! (3 ∷ 0 ∷ []) $ w-join ! $ w-move ! (4 ∷ 0 ∷ []) $ w-join ! $ w-move ! (5 ∷ 0 ∷ []) $ w-join ! $ w-move ! (6 ∷ 0 ∷ []) $ w-join ! $ w-move ! (7 ∷ 0 ∷ []) $ w-join ! $ w-move ! (8 ∷ 0 ∷ []) $ w-join ! $ w-move ! (9 ∷ 0 ∷ []) $ w-join ! $ w-move ! (10 ∷ 0 ∷ []) $ w-join ! $ w-move ! (11 ∷ 0 ∷ []) $ w-join ! $
-          use2 W (raw (C-answer 𝓤 H A mem run .pre (((ν5-1 ∷ [], (ν5-2 ∷ [], (ν5-3 ∷ [], (ν5-4 ∷ [], (ν5-5 ∷ [], (ν5-6 ∷ [], (ν5-7 ∷ [], (ν5-8 ∷ [], (ν5-9 ∷ [], tt))))))))), (fullShare, (fullShare, (fullShare, (fullShare, (fullShare, (fullShare, (fullShare, (fullShare, (fullShare, tt))))))))), tt, (u4, (ref-permutation δ5-1 c4-permutation, (ref-firsts δ5-2 c4-firsts, (ref-starts δ5-3 c4-starts, (ref-rows δ5-4 c4-rows, (ref-values δ5-5 c4-values, (ref-words δ5-6 c4-words, (ref-floats δ5-7 c4-floats, (ref-b δ5-8 b, (ref-out δ5-9 out, tt)))))))))), (r4 ∷ [], (sliceVal (b-permutation, o-permutation) (length c4-permutation) ∷ [], (sliceVal (b-firsts, o-firsts) (length c4-firsts) ∷ [], (sliceVal (b-starts, o-starts) (length c4-starts) ∷ [], (sliceVal (b-rows, o-rows) (length c4-rows) ∷ [], (sliceVal (b-values, o-values) (length c4-values) ∷ [], (sliceVal (b-words, o-words) (length c4-words) ∷ [], (sliceVal (b-floats, o-floats) (length c4-floats) ∷ [], (sliceVal (b-b, o-b) (length b) ∷ [], (s-out ∷ [], tt))))))))))), tt))) (asked5 u1 r1 is1 d1 u2 r2 is2 d2 u3 r3 is3 d3 updates made-updates size-updates u4 r4 is4 c4-permutation c4-firsts c4-starts c4-groups c4-tasks c4-top c4-words c4-floats c4-rows c4-updates c4-values d4 same4-permutation same4-firsts same4-starts same4-groups same4-tasks same4-top same4-words same4-floats same4-rows same4-updates same4-values ν5-1 δ5-1 ν5-2 δ5-2 ν5-3 δ5-3 ν5-4 δ5-4 ν5-5 δ5-5 ν5-6 δ5-6 ν5-7 δ5-7 ν5-8 δ5-8 ν5-9 δ5-9) $
-          w-calls-at ! fm (C-answer 𝓤 H A mem run) known-answer (((ν5-1 ∷ [], (ν5-2 ∷ [], (ν5-3 ∷ [], (ν5-4 ∷ [], (ν5-5 ∷ [], (ν5-6 ∷ [], (ν5-7 ∷ [], (ν5-8 ∷ [], (ν5-9 ∷ [], tt))))))))), (fullShare, (fullShare, (fullShare, (fullShare, (fullShare, (fullShare, (fullShare, (fullShare, (fullShare, tt))))))))), tt, (u4, (ref-permutation δ5-1 c4-permutation, (ref-firsts δ5-2 c4-firsts, (ref-starts δ5-3 c4-starts, (ref-rows δ5-4 c4-rows, (ref-values δ5-5 c4-values, (ref-words δ5-6 c4-words, (ref-floats δ5-7 c4-floats, (ref-b δ5-8 b, (ref-out δ5-9 out, tt)))))))))), (r4 ∷ [], (sliceVal (b-permutation, o-permutation) (length c4-permutation) ∷ [], (sliceVal (b-firsts, o-firsts) (length c4-firsts) ∷ [], (sliceVal (b-starts, o-starts) (length c4-starts) ∷ [], (sliceVal (b-rows, o-rows) (length c4-rows) ∷ [], (sliceVal (b-values, o-values) (length c4-values) ∷ [], (sliceVal (b-words, o-words) (length c4-words) ∷ [], (sliceVal (b-floats, o-floats) (length c4-floats) ∷ [], (sliceVal (b-b, o-b) (length b) ∷ [], (s-out ∷ [], tt))))))))))), tt) (w-and-then ! (w-load ! (w-from ! (w-stop !)) (w-look ! 39 refl)) (w-and-then ! (w-load ! (w-from ! (w-stop !)) (w-look ! 12 refl)) (w-and-then ! (w-load ! (w-from ! (w-stop !)) (w-look ! 14 refl)) (w-and-then ! (w-load ! (w-from ! (w-stop !)) (w-look ! 16 refl)) (w-and-then ! (w-load ! (w-from ! (w-stop !)) (w-look ! 18 refl)) (w-and-then ! (w-load ! (w-from ! (w-stop !)) (w-look ! 20 refl)) (w-and-then ! (w-load ! (w-from ! (w-stop !)) (w-look ! 22 refl)) (w-and-then ! (w-load ! (w-from ! (w-stop !)) (w-look ! 24 refl)) (w-and-then ! (w-load ! (w-from ! (w-stop !)) (w-look ! 26 refl)) (w-and-then ! (w-load ! (w-from ! (w-stop !)) (w-look ! 27 refl)) (w-no-more !))))))))))) (λ r5.
+          use2 W (raw (C-answer 𝓤 H A mem run .pre (((ν5-1 ∷ [], (ν5-2 ∷ [], (ν5-3 ∷ [], (ν5-4 ∷ [], (ν5-5 ∷ [], (ν5-6 ∷ [], (ν5-7 ∷ [], (ν5-8 ∷ [], (ν5-9 ∷ [], tt))))))))), (fullShare, (fullShare, (fullShare, (fullShare, (fullShare, (fullShare, (fullShare, (fullShare, (fullShare, tt))))))))), tt, (u4, (ref-permutation δ5-1 c4-permutation, (ref-firsts δ5-2 c4-firsts, (ref-starts δ5-3 c4-starts, (ref-rows δ5-4 c4-rows, (ref-values δ5-5 c4-values, (ref-words δ5-6 c4-words, (ref-floats δ5-7 c4-floats, (ref-b δ5-8 b, (ref-out δ5-9 out, tt)))))))))), (r4 ∷ [], (s-permutation ∷ [], (s-firsts ∷ [], (s-starts ∷ [], (s-rows ∷ [], (s-values ∷ [], (s-words ∷ [], (s-floats ∷ [], (s-b ∷ [], (s-out ∷ [], tt))))))))))), tt))) (asked5 u1 r1 is1 d1 u2 r2 is2 d2 u3 r3 is3 d3 updates made-updates size-updates u4 r4 is4 c4-permutation c4-firsts c4-starts c4-groups c4-tasks c4-top c4-words c4-floats c4-rows c4-updates c4-values d4 same4-permutation same4-firsts same4-starts same4-groups same4-tasks same4-top same4-words same4-floats same4-rows same4-updates same4-values ν5-1 δ5-1 ν5-2 δ5-2 ν5-3 δ5-3 ν5-4 δ5-4 ν5-5 δ5-5 ν5-6 δ5-6 ν5-7 δ5-7 ν5-8 δ5-8 ν5-9 δ5-9) $
+          w-calls-at ! fm (C-answer 𝓤 H A mem run) known-answer (((ν5-1 ∷ [], (ν5-2 ∷ [], (ν5-3 ∷ [], (ν5-4 ∷ [], (ν5-5 ∷ [], (ν5-6 ∷ [], (ν5-7 ∷ [], (ν5-8 ∷ [], (ν5-9 ∷ [], tt))))))))), (fullShare, (fullShare, (fullShare, (fullShare, (fullShare, (fullShare, (fullShare, (fullShare, (fullShare, tt))))))))), tt, (u4, (ref-permutation δ5-1 c4-permutation, (ref-firsts δ5-2 c4-firsts, (ref-starts δ5-3 c4-starts, (ref-rows δ5-4 c4-rows, (ref-values δ5-5 c4-values, (ref-words δ5-6 c4-words, (ref-floats δ5-7 c4-floats, (ref-b δ5-8 b, (ref-out δ5-9 out, tt)))))))))), (r4 ∷ [], (s-permutation ∷ [], (s-firsts ∷ [], (s-starts ∷ [], (s-rows ∷ [], (s-values ∷ [], (s-words ∷ [], (s-floats ∷ [], (s-b ∷ [], (s-out ∷ [], tt))))))))))), tt) (w-and-then ! (w-load ! (w-from ! (w-stop !)) (w-look ! 39 refl)) (w-and-then ! (w-load ! (w-from ! (w-stop !)) (w-look ! 12 refl)) (w-and-then ! (w-load ! (w-from ! (w-stop !)) (w-look ! 14 refl)) (w-and-then ! (w-load ! (w-from ! (w-stop !)) (w-look ! 16 refl)) (w-and-then ! (w-load ! (w-from ! (w-stop !)) (w-look ! 18 refl)) (w-and-then ! (w-load ! (w-from ! (w-stop !)) (w-look ! 20 refl)) (w-and-then ! (w-load ! (w-from ! (w-stop !)) (w-look ! 22 refl)) (w-and-then ! (w-load ! (w-from ! (w-stop !)) (w-look ! 24 refl)) (w-and-then ! (w-load ! (w-from ! (w-stop !)) (w-look ! 26 refl)) (w-and-then ! (w-load ! (w-from ! (w-stop !)) (w-look ! 27 refl)) (w-no-more !))))))))))) (λ r5.
           use1 W (later (some (λ (u′ : ℕ). ((‵ (flft (ν5-1 ∷ []) fullShare) ⊛ ‵ (flft (ν5-2 ∷ []) fullShare) ⊛ ‵ (flft (ν5-3 ∷ []) fullShare) ⊛ ‵ (flft (ν5-4 ∷ []) fullShare) ⊛ ‵ (flft (ν5-5 ∷ []) fullShare) ⊛ ‵ (flft (ν5-6 ∷ []) fullShare) ⊛ ‵ (flft (ν5-7 ∷ []) fullShare) ⊛ ‵ (flft (ν5-8 ∷ []) fullShare) ⊛ ‵ (flft (ν5-9 ∷ []) fullShare) ⊛ ‵ ftrue) ⊛ ‵ (usize .own u′ (r5 ∷ []))) ⊛ raw (ensured 𝓤 H A f-answer.ended (f-answer.clauses 𝓤 H A mem run) (ν5-1 ∷ [], (ν5-2 ∷ [], (ν5-3 ∷ [], (ν5-4 ∷ [], (ν5-5 ∷ [], (ν5-6 ∷ [], (ν5-7 ∷ [], (ν5-8 ∷ [], (ν5-9 ∷ [], tt))))))))) (u4, (ref-permutation δ5-1 c4-permutation, (ref-firsts δ5-2 c4-firsts, (ref-starts δ5-3 c4-starts, (ref-rows δ5-4 c4-rows, (ref-values δ5-5 c4-values, (ref-words δ5-6 c4-words, (ref-floats δ5-7 c4-floats, (ref-b δ5-8 b, (ref-out δ5-9 out, tt)))))))))) tt u′)))) (id⊢ 𝓤 _) $ w-await ! tt $ w-pick ! (λ u5.
           w-split ! $ w-move ! (1 ∷ []) $ use1 W (some (λ (zs5 : Unit {0} × (Unit {0} × (Unit {0} × (Unit {0} × (Unit {0} × (Unit {0} × (List ℕ × (List Float × (List Float × (List ℕ × Unit {0})))))))))). ‵ (lasts f-answer.ended (ν5-1 ∷ [], (ν5-2 ∷ [], (ν5-3 ∷ [], (ν5-4 ∷ [], (ν5-5 ∷ [], (ν5-6 ∷ [], (ν5-7 ∷ [], (ν5-8 ∷ [], (ν5-9 ∷ [], tt))))))))) (u4, (ref-permutation δ5-1 c4-permutation, (ref-firsts δ5-2 c4-firsts, (ref-starts δ5-3 c4-starts, (ref-rows δ5-4 c4-rows, (ref-values δ5-5 c4-values, (ref-words δ5-6 c4-words, (ref-floats δ5-7 c4-floats, (ref-b δ5-8 b, (ref-out δ5-9 out, tt)))))))))) zs5) ⊛ raw (fact 𝓤 (((j : Frames) → Made j u4 (lent (c4-permutation) (c4-firsts) (c4-starts) (c4-rows) (c4-values)) (b) (length (c4-words)) (length (c4-floats)) → Wrote (written (whole j)) u5 (out) ((zs5 .1 .1 .1 .1 .1 .1 .1 .1 .1 .0))))))) (id⊢ 𝓤 _) $ w-pick ! (λ zs5. w-split ! $ w-move ! (1 ∷ []) $ w-heard ! (((j : Frames) → Made j u4 (lent (c4-permutation) (c4-firsts) (c4-starts) (c4-rows) (c4-values)) (b) (length (c4-words)) (length (c4-floats)) → Wrote (written (whole j)) u5 (out) ((zs5 .1 .1 .1 .1 .1 .1 .1 .1 .1 .0)))) (λ d5.
-          w-fsplit ! $ w-drop ! $ w-fsplit ! $ w-drop ! $ w-fsplit ! $ w-drop ! $ w-fsplit ! $ w-drop ! $ w-fsplit ! $ w-drop ! $ w-fsplit ! $ w-drop ! $ w-fsplit ! $ w-fsplit ! $ w-move ! (1 ∷ []) $ w-feqL ! (λ same5-words. w-move ! (1 ∷ []) $ w-fsplit ! $ w-fsplit ! $ w-move ! (1 ∷ []) $ w-feqL ! (λ same5-floats. w-move ! (1 ∷ []) $ w-fsplit ! $ w-fsplit ! $ w-move ! (1 ∷ []) $ w-feqL ! (λ same5-b. w-move ! (1 ∷ []) $ w-fsplit ! $ w-move ! (1 ∷ []) $ w-drop ! $
+          w-past ! $ w-past ! $ w-past ! $ w-past ! $ w-past ! $ w-past ! $ w-last ! (λ same5-words. w-move ! (1 ∷ []) $ w-last ! (λ same5-floats. w-move ! (1 ∷ []) $ w-last ! (λ same5-b. w-move ! (1 ∷ []) $ w-fsplit ! $ w-move ! (1 ∷ []) $ w-drop ! $
           w-move ! (4 ∷ []) $ w-split ! $ w-move ! (1 ∷ []) $ w-peeks ! usize (Is usize) (shows 𝓤 H A usize) u5 (r5 ∷ []) (λ is5. w-land ! (w-from ! (w-stop !)) (w-init ! 33 refl (uint-lawful 𝓤 H A W w64 .typed u5 _ is5 .0)) $
-          w-drop ! $ w-split ! $ w-lft-end ! tt $ w-move ! (0 ∷ 14 ∷ []) $ use2 W (later (‵ (MutSlice (named 4) κ-permutation usize .own (ref-permutation γ-permutation c4-permutation) (sliceVal (b-permutation, o-permutation) (length c4-permutation) ∷ [])) ⊛ ‵ (flft κ-permutation q-permutation))) (shared-back usize κ-permutation (ν5-1 ∷ []) q-permutation γ-permutation b-permutation o-permutation 𝓤 H A W (named 4) (named 0) c4-permutation (subst (Room usize) (sym same4-permutation) room-permutation)) $ w-await ! tt $ w-split ! $
-          w-rewrite ! 0 (λ (m : ℕ). ‵ (MutSlice (named 4) κ-permutation usize .own (ref-permutation γ-permutation c4-permutation) (sliceVal (b-permutation, o-permutation) m ∷ []))) same4-permutation refl $
-          w-move ! (2 ∷ []) $ w-split ! $ w-lft-end ! tt $ w-move ! (0 ∷ 15 ∷ []) $ use2 W (later (‵ (MutSlice (named 5) κ-firsts usize .own (ref-firsts γ-firsts c4-firsts) (sliceVal (b-firsts, o-firsts) (length c4-firsts) ∷ [])) ⊛ ‵ (flft κ-firsts q-firsts))) (shared-back usize κ-firsts (ν5-2 ∷ []) q-firsts γ-firsts b-firsts o-firsts 𝓤 H A W (named 5) (named 1) c4-firsts (subst (Room usize) (sym same4-firsts) room-firsts)) $ w-await ! tt $ w-split ! $
-          w-rewrite ! 0 (λ (m : ℕ). ‵ (MutSlice (named 5) κ-firsts usize .own (ref-firsts γ-firsts c4-firsts) (sliceVal (b-firsts, o-firsts) m ∷ []))) same4-firsts refl $
-          w-move ! (2 ∷ []) $ w-split ! $ w-lft-end ! tt $ w-move ! (0 ∷ 16 ∷ []) $ use2 W (later (‵ (MutSlice (named 6) κ-starts usize .own (ref-starts γ-starts c4-starts) (sliceVal (b-starts, o-starts) (length c4-starts) ∷ [])) ⊛ ‵ (flft κ-starts q-starts))) (shared-back usize κ-starts (ν5-3 ∷ []) q-starts γ-starts b-starts o-starts 𝓤 H A W (named 6) (named 2) c4-starts (subst (Room usize) (sym same4-starts) room-starts)) $ w-await ! tt $ w-split ! $
-          w-rewrite ! 0 (λ (m : ℕ). ‵ (MutSlice (named 6) κ-starts usize .own (ref-starts γ-starts c4-starts) (sliceVal (b-starts, o-starts) m ∷ []))) same4-starts refl $
-          w-move ! (2 ∷ []) $ w-split ! $ w-lft-end ! tt $ w-move ! (0 ∷ 17 ∷ []) $ use2 W (later (‵ (MutSlice (named 12) κ-rows usize .own (ref-rows γ-rows c4-rows) (sliceVal (b-rows, o-rows) (length c4-rows) ∷ [])) ⊛ ‵ (flft κ-rows q-rows))) (shared-back usize κ-rows (ν5-4 ∷ []) q-rows γ-rows b-rows o-rows 𝓤 H A W (named 12) (named 3) c4-rows (subst (Room usize) (sym same4-rows) room-rows)) $ w-await ! tt $ w-split ! $
-          w-rewrite ! 0 (λ (m : ℕ). ‵ (MutSlice (named 12) κ-rows usize .own (ref-rows γ-rows c4-rows) (sliceVal (b-rows, o-rows) m ∷ []))) same4-rows refl $
-          w-move ! (2 ∷ []) $ w-split ! $ w-lft-end ! tt $ w-move ! (0 ∷ 18 ∷ []) $ use2 W (later (‵ (MutSlice (named 13) κ-values f64 .own (ref-values γ-values c4-values) (sliceVal (b-values, o-values) (length c4-values) ∷ [])) ⊛ ‵ (flft κ-values q-values))) (shared-back f64 κ-values (ν5-5 ∷ []) q-values γ-values b-values o-values 𝓤 H A W (named 13) (named 4) c4-values (subst (Room f64) (sym same4-values) room-values)) $ w-await ! tt $ w-split ! $
-          w-rewrite ! 0 (λ (m : ℕ). ‵ (MutSlice (named 13) κ-values f64 .own (ref-values γ-values c4-values) (sliceVal (b-values, o-values) m ∷ []))) same4-values refl $
-          w-move ! (2 ∷ []) $ w-split ! $ w-lft-end ! tt $ w-move ! (0 ∷ 19 ∷ 15 ∷ []) $ use3 W (later (‵ (MutSlice (named 10) κ-words usize .own (ref-words γ-words (zs5 .1 .1 .1 .1 .1 .1 .0)) (sliceVal (b-words, o-words) (length c4-words) ∷ [])) ⊛ ‵ (flft κ-words q-words))) (comes-back usize κ-words (ν5-6 ∷ []) q-words γ-words b-words o-words 𝓤 H A W (named 10) (named 5) c4-words δ5-6 (zs5 .1 .1 .1 .1 .1 .1 .0) (subst (Room usize) (sym same4-words) room-words) same5-words) $ w-await ! tt $ w-split ! $
-          w-rewrite ! 0 (λ (m : ℕ). ‵ (MutSlice (named 10) κ-words usize .own (ref-words γ-words (zs5 .1 .1 .1 .1 .1 .1 .0)) (sliceVal (b-words, o-words) m ∷ []))) same4-words refl $
-          w-move ! (2 ∷ []) $ w-split ! $ w-lft-end ! tt $ w-move ! (0 ∷ 19 ∷ 16 ∷ []) $ use3 W (later (‵ (MutSlice (named 11) κ-floats f64 .own (ref-floats γ-floats (zs5 .1 .1 .1 .1 .1 .1 .1 .0)) (sliceVal (b-floats, o-floats) (length c4-floats) ∷ [])) ⊛ ‵ (flft κ-floats q-floats))) (comes-back f64 κ-floats (ν5-7 ∷ []) q-floats γ-floats b-floats o-floats 𝓤 H A W (named 11) (named 6) c4-floats δ5-7 (zs5 .1 .1 .1 .1 .1 .1 .1 .0) (subst (Room f64) (sym same4-floats) room-floats) same5-floats) $ w-await ! tt $ w-split ! $
-          w-rewrite ! 0 (λ (m : ℕ). ‵ (MutSlice (named 11) κ-floats f64 .own (ref-floats γ-floats (zs5 .1 .1 .1 .1 .1 .1 .1 .0)) (sliceVal (b-floats, o-floats) m ∷ []))) same4-floats refl $
-          w-move ! (2 ∷ []) $ w-split ! $ w-lft-end ! tt $ w-move ! (0 ∷ 19 ∷ 17 ∷ []) $ use3 W (later (‵ (MutSlice (named 14) κ-b f64 .own (ref-b γ-b (zs5 .1 .1 .1 .1 .1 .1 .1 .1 .0)) (sliceVal (b-b, o-b) (length b) ∷ [])) ⊛ ‵ (flft κ-b q-b))) (comes-back f64 κ-b (ν5-8 ∷ []) q-b γ-b b-b o-b 𝓤 H A W (named 14) (named 7) b δ5-8 (zs5 .1 .1 .1 .1 .1 .1 .1 .1 .0) room-b same5-b) $ w-await ! tt $ w-split ! $
+          w-drop ! $ w-move ! (0 ∷ 13 ∷ []) $ w-shown ! tt usize κ-permutation q-permutation γ-permutation b-permutation o-permutation (named 4) (named 0) c4-permutation (length permutation) same4-permutation ν5-1 room-permutation $
+          w-move ! (2 ∷ 14 ∷ []) $ w-shown ! tt usize κ-firsts q-firsts γ-firsts b-firsts o-firsts (named 5) (named 1) c4-firsts (length firsts) same4-firsts ν5-2 room-firsts $
+          w-move ! (2 ∷ 15 ∷ []) $ w-shown ! tt usize κ-starts q-starts γ-starts b-starts o-starts (named 6) (named 2) c4-starts (length starts) same4-starts ν5-3 room-starts $
+          w-move ! (2 ∷ 16 ∷ []) $ w-shown ! tt usize κ-rows q-rows γ-rows b-rows o-rows (named 12) (named 3) c4-rows (length rows) same4-rows ν5-4 room-rows $
+          w-move ! (2 ∷ 17 ∷ []) $ w-shown ! tt f64 κ-values q-values γ-values b-values o-values (named 13) (named 4) c4-values (length values) same4-values ν5-5 room-values $
+          w-move ! (2 ∷ 18 ∷ 14 ∷ []) $ w-back ! tt usize κ-words q-words γ-words b-words o-words (named 10) (named 5) c4-words (length words) same4-words ν5-6 δ5-6 (zs5 .1 .1 .1 .1 .1 .1 .0) room-words same5-words $
+          w-move ! (2 ∷ 18 ∷ 15 ∷ []) $ w-back ! tt f64 κ-floats q-floats γ-floats b-floats o-floats (named 11) (named 6) c4-floats (length floats) same4-floats ν5-7 δ5-7 (zs5 .1 .1 .1 .1 .1 .1 .1 .0) room-floats same5-floats $
+          w-move ! (2 ∷ 18 ∷ 16 ∷ []) $ w-back ! tt f64 κ-b q-b γ-b b-b o-b (named 14) (named 7) b (length b) refl ν5-8 δ5-8 (zs5 .1 .1 .1 .1 .1 .1 .1 .1 .0) room-b same5-b $
           w-move ! (2 ∷ []) $ w-split ! $ w-lft-end ! tt $ w-move ! (0 ∷ 19 ∷ 18 ∷ []) $ use3 W (later (‵ (MutRef (named 15) κ-out (Array u8 2959) .own (ref-out γ-out (zs5 .1 .1 .1 .1 .1 .1 .1 .1 .1 .0)) (s-out ∷ [])) ⊛ ‵ (flft κ-out q-out))) (ref-comes-back 𝓤 H A W (Array u8 2959) (named 15) κ-out (ν5-9 ∷ []) q-out γ-out b-out o-out δ5-9 out (zs5 .1 .1 .1 .1 .1 .1 .1 .1 .1 .0)) $ w-await ! tt $ w-split ! $
           w-move ! (2 ∷ []) $ w-drop ! $
           w-forget ! 19 refl $ w-forget ! 20 refl $ w-forget ! 21 refl $ w-forget ! 22 refl $ w-forget ! 23 refl $ w-forget ! 24 refl $ w-forget ! 25 refl $ w-forget ! 26 refl $ w-forget ! 27 refl $ w-forget ! 28 refl $ w-forget ! 29 refl $ w-forget ! 30 refl $ w-forget ! 31 refl $ w-forget ! 32 refl $ w-forget ! 33 refl $ w-forget ! 34 refl $ w-forget ! 35 refl $ w-move ! (19 ∷ 20 ∷ 21 ∷ 22 ∷ 23 ∷ 24 ∷ 25 ∷ 26 ∷ 27 ∷ 28 ∷ 29 ∷ 30 ∷ 31 ∷ 32 ∷ 33 ∷ 34 ∷ 35 ∷ []) $ w-pack ! (‵ (froom ty46 l46 0) ∷ ‵ (froom ty47 l47 0) ∷ ‵ (froom ty48 l48 0) ∷ ‵ (froom ty49 l49 0) ∷ ‵ (froom ty50 l50 0) ∷ ‵ (froom ty51 l51 0) ∷ ‵ (froom ty52 l52 0) ∷ ‵ (froom ty53 l53 0) ∷ ‵ (froom ty54 l54 0) ∷ ‵ (froom ty55 l55 0) ∷ ‵ (froom ty56 l56 0) ∷ ‵ (froom ty57 l57 0) ∷ ‵ (froom ty58 l58 0) ∷ ‵ (froom ty59 l59 0) ∷ ‵ (froom ty60 l60 0) ∷ ‵ (froom ty61 l61 0) ∷ ‵ (froom ty62 l62 0) ∷ []) $
+          w-written ! (raw (Packed 𝓤 H A spare5) ∷ ‵ (MutRef (named 15) κ-out (Array u8 2959) .own (ref-out γ-out (zs5 .1 .1 .1 .1 .1 .1 .1 .1 .1 .0)) (s-out ∷ [])) ∷ ‵ (flft κ-out q-out) ∷ ‵ (MutSlice (named 14) κ-b f64 .own (ref-b γ-b (zs5 .1 .1 .1 .1 .1 .1 .1 .1 .0)) (sliceVal (b-b, o-b) (length b) ∷ [])) ∷ ‵ (flft κ-b q-b) ∷ ‵ (MutSlice (named 11) κ-floats f64 .own (ref-floats γ-floats (zs5 .1 .1 .1 .1 .1 .1 .1 .0)) (sliceVal (b-floats, o-floats) (length floats) ∷ [])) ∷ ‵ (flft κ-floats q-floats) ∷ ‵ (MutSlice (named 10) κ-words usize .own (ref-words γ-words (zs5 .1 .1 .1 .1 .1 .1 .0)) (sliceVal (b-words, o-words) (length words) ∷ [])) ∷ ‵ (flft κ-words q-words) ∷ ‵ (MutSlice (named 13) κ-values f64 .own (ref-values γ-values c4-values) (sliceVal (b-values, o-values) (length values) ∷ [])) ∷ ‵ (flft κ-values q-values) ∷ ‵ (MutSlice (named 12) κ-rows usize .own (ref-rows γ-rows c4-rows) (sliceVal (b-rows, o-rows) (length rows) ∷ [])) ∷ ‵ (flft κ-rows q-rows) ∷ ‵ (MutSlice (named 6) κ-starts usize .own (ref-starts γ-starts c4-starts) (sliceVal (b-starts, o-starts) (length starts) ∷ [])) ∷ ‵ (flft κ-starts q-starts) ∷ ‵ (MutSlice (named 5) κ-firsts usize .own (ref-firsts γ-firsts c4-firsts) (sliceVal (b-firsts, o-firsts) (length firsts) ∷ [])) ∷ ‵ (flft κ-firsts q-firsts) ∷ ‵ (MutSlice (named 4) κ-permutation usize .own (ref-permutation γ-permutation c4-permutation) (sliceVal (b-permutation, o-permutation) (length permutation) ∷ [])) ∷ ‵ (flft κ-permutation q-permutation) ∷ raw (Packed 𝓤 H A (‵ (ShrSlice (named 0) κ-input-starts usize .own (ref-input-starts γ-input-starts input-starts) (sliceVal (b-input-starts, o-input-starts) (length input-starts) ∷ [])) ∷ ‵ (ShrSlice (named 1) κ-input-rows usize .own (ref-input-rows γ-input-rows input-rows) (sliceVal (b-input-rows, o-input-rows) (length input-rows) ∷ [])) ∷ ‵ (ShrSlice (named 2) κ-input-values f64 .own (ref-input-values γ-input-values input-values) (sliceVal (b-input-values, o-input-values) (length input-values) ∷ [])) ∷ ‵ (ShrSlice (named 3) κ-list usize .own (ref-list γ-list «list») (sliceVal (b-list, o-list) (length «list») ∷ [])) ∷ ‵ (MutSlice (named 7) κ-groups usize .own (ref-groups γ-groups c4-groups) (sliceVal (b-groups, o-groups) (length groups) ∷ [])) ∷ ‵ (MutSlice (named 8) κ-tasks usize .own (ref-tasks γ-tasks c4-tasks) (sliceVal (b-tasks, o-tasks) (length tasks) ∷ [])) ∷ ‵ (MutSlice (named 9) κ-top usize .own (ref-top γ-top c4-top) (sliceVal (b-top, o-top) (length top) ∷ [])) ∷ ‵ (flft κ-input-starts q-input-starts) ∷ ‵ (flft κ-input-rows q-input-rows) ∷ ‵ (flft κ-input-values q-input-values) ∷ ‵ (flft κ-list q-list) ∷ ‵ (flft κ-groups q-groups) ∷ ‵ (flft κ-tasks q-tasks) ∷ ‵ (flft κ-top q-top) ∷ ‵ (fat fullShare ty2 l2 0 s-input-starts) ∷ ‵ (fat fullShare ty3 l3 0 s-input-rows) ∷ ‵ (fat fullShare ty4 l4 0 s-input-values) ∷ ‵ (fat fullShare ty5 l5 0 (vint w64 cap)) ∷ ‵ (fat fullShare ty6 l6 0 s-list) ∷ ‵ (fat fullShare ty10 l10 0 s-groups) ∷ ‵ (fat fullShare ty11 l11 0 s-tasks) ∷ ‵ (fat fullShare ty12 l12 0 s-top) ∷ ‵ (fat fullShare ty19 l19 0 r1) ∷ ‵ (fat fullShare ty20 l20 0 r2) ∷ ‵ (fat fullShare ty21 l21 0 r3) ∷ ‵ (Lies T-Update.the-row 8256 l22 0 c4-updates) ∷ raw (Packed 𝓤 H A spare4) ∷ raw (Packed 𝓤 H A dying) ∷ [])) ∷ ‵ (fat fullShare ty0 l0 0 r5) ∷ ‵ (fat fullShare ty1 l1 0 (vint w64 n)) ∷ ‵ (fat fullShare ty7 l7 0 s-permutation) ∷ ‵ (fat fullShare ty8 l8 0 s-firsts) ∷ ‵ (fat fullShare ty9 l9 0 s-starts) ∷ ‵ (fat fullShare ty13 l13 0 s-words) ∷ ‵ (fat fullShare ty14 l14 0 s-floats) ∷ ‵ (fat fullShare ty15 l15 0 s-rows) ∷ ‵ (fat fullShare ty16 l16 0 s-values) ∷ ‵ (fat fullShare ty17 l17 0 s-b) ∷ ‵ (fat fullShare ty18 l18 0 s-out) ∷ ‵ (fat fullShare ty23 l23 0 r4) ∷ []) $
           w-move ! (19 ∷ []) $ w-unpack ! (‵ (ShrSlice (named 0) κ-input-starts usize .own (ref-input-starts γ-input-starts input-starts) (sliceVal (b-input-starts, o-input-starts) (length input-starts) ∷ [])) ∷ ‵ (ShrSlice (named 1) κ-input-rows usize .own (ref-input-rows γ-input-rows input-rows) (sliceVal (b-input-rows, o-input-rows) (length input-rows) ∷ [])) ∷ ‵ (ShrSlice (named 2) κ-input-values f64 .own (ref-input-values γ-input-values input-values) (sliceVal (b-input-values, o-input-values) (length input-values) ∷ [])) ∷ ‵ (ShrSlice (named 3) κ-list usize .own (ref-list γ-list «list») (sliceVal (b-list, o-list) (length «list») ∷ [])) ∷ ‵ (MutSlice (named 7) κ-groups usize .own (ref-groups γ-groups c4-groups) (sliceVal (b-groups, o-groups) (length groups) ∷ [])) ∷ ‵ (MutSlice (named 8) κ-tasks usize .own (ref-tasks γ-tasks c4-tasks) (sliceVal (b-tasks, o-tasks) (length tasks) ∷ [])) ∷ ‵ (MutSlice (named 9) κ-top usize .own (ref-top γ-top c4-top) (sliceVal (b-top, o-top) (length top) ∷ [])) ∷ ‵ (flft κ-input-starts q-input-starts) ∷ ‵ (flft κ-input-rows q-input-rows) ∷ ‵ (flft κ-input-values q-input-values) ∷ ‵ (flft κ-list q-list) ∷ ‵ (flft κ-groups q-groups) ∷ ‵ (flft κ-tasks q-tasks) ∷ ‵ (flft κ-top q-top) ∷ ‵ (fat fullShare ty2 l2 0 s-input-starts) ∷ ‵ (fat fullShare ty3 l3 0 s-input-rows) ∷ ‵ (fat fullShare ty4 l4 0 s-input-values) ∷ ‵ (fat fullShare ty5 l5 0 (vint w64 cap)) ∷ ‵ (fat fullShare ty6 l6 0 s-list) ∷ ‵ (fat fullShare ty10 l10 0 s-groups) ∷ ‵ (fat fullShare ty11 l11 0 s-tasks) ∷ ‵ (fat fullShare ty12 l12 0 s-top) ∷ ‵ (fat fullShare ty19 l19 0 r1) ∷ ‵ (fat fullShare ty20 l20 0 r2) ∷ ‵ (fat fullShare ty21 l21 0 r3) ∷ ‵ (Lies T-Update.the-row 8256 l22 0 c4-updates) ∷ raw (Packed 𝓤 H A spare4) ∷ raw (Packed 𝓤 H A dying) ∷ []) $
-          w-keep ! (0 ∷ 1 ∷ 2 ∷ 3 ∷ 45 ∷ 43 ∷ 41 ∷ 4 ∷ 5 ∷ 6 ∷ 35 ∷ 33 ∷ 39 ∷ 37 ∷ 31 ∷ 29 ∷ 7 ∷ 8 ∷ 9 ∷ 10 ∷ 46 ∷ 44 ∷ 42 ∷ 11 ∷ 12 ∷ 13 ∷ 36 ∷ 34 ∷ 40 ∷ 38 ∷ 32 ∷ 30 ∷ 47 ∷ 48 ∷ 14 ∷ 15 ∷ 16 ∷ 17 ∷ 18 ∷ 49 ∷ 50 ∷ 51 ∷ 19 ∷ 20 ∷ 21 ∷ 52 ∷ 53 ∷ 54 ∷ 55 ∷ 56 ∷ 57 ∷ 22 ∷ 23 ∷ 24 ∷ 25 ∷ 58 ∷ 26 ∷ 28 ∷ 27 ∷ []) $ after5 u1 r1 is1 d1 u2 r2 is2 d2 u3 r3 is3 d3 updates made-updates size-updates u4 r4 is4 c4-permutation c4-firsts c4-starts c4-groups c4-tasks c4-top c4-words c4-floats c4-rows c4-updates c4-values d4 same4-permutation same4-firsts same4-starts same4-groups same4-tasks same4-top same4-words same4-floats same4-rows same4-updates same4-values u5 r5 is5 (zs5 .1 .1 .1 .1 .1 .1 .0) (zs5 .1 .1 .1 .1 .1 .1 .1 .0) (zs5 .1 .1 .1 .1 .1 .1 .1 .1 .0) (zs5 .1 .1 .1 .1 .1 .1 .1 .1 .1 .0) d5 same5-words same5-floats same5-b))))))))))))))))))))))))))
+          w-keep ! (0 ∷ 1 ∷ 2 ∷ 3 ∷ 45 ∷ 43 ∷ 41 ∷ 4 ∷ 5 ∷ 6 ∷ 35 ∷ 33 ∷ 39 ∷ 37 ∷ 31 ∷ 29 ∷ 7 ∷ 8 ∷ 9 ∷ 10 ∷ 46 ∷ 44 ∷ 42 ∷ 11 ∷ 12 ∷ 13 ∷ 36 ∷ 34 ∷ 40 ∷ 38 ∷ 32 ∷ 30 ∷ 47 ∷ 48 ∷ 14 ∷ 15 ∷ 16 ∷ 17 ∷ 18 ∷ 49 ∷ 50 ∷ 51 ∷ 19 ∷ 20 ∷ 21 ∷ 52 ∷ 53 ∷ 54 ∷ 55 ∷ 56 ∷ 57 ∷ 22 ∷ 23 ∷ 24 ∷ 25 ∷ 58 ∷ 26 ∷ 28 ∷ 27 ∷ []) $ after5 u1 r1 is1 d1 u2 r2 is2 d2 u3 r3 is3 d3 updates made-updates size-updates u4 r4 is4 c4-permutation c4-firsts c4-starts c4-groups c4-tasks c4-top c4-words c4-floats c4-rows c4-updates c4-values d4 same4-permutation same4-firsts same4-starts same4-groups same4-tasks same4-top same4-words same4-floats same4-rows same4-updates same4-values u5 r5 is5 (zs5 .1 .1 .1 .1 .1 .1 .0) (zs5 .1 .1 .1 .1 .1 .1 .1 .0) (zs5 .1 .1 .1 .1 .1 .1 .1 .1 .0) (zs5 .1 .1 .1 .1 .1 .1 .1 .1 .1 .0) d5 same5-words same5-floats same5-b))))))))))))))))))
 
       with-updates : (u1 : Order) (r1 : Val) (is1 : Is T-Order.the-row u1 (r1 ∷ [])) (d1 : u1 ≡ Plain) (u2 : Stop) (r2 : Val) (is2 : Is T-Stop.the-row u2 (r2 ∷ [])) (d2 : u2 ≡ End) (u3 : Update) (r3 : Val) (is3 : Is T-Update.the-row u3 (r3 ∷ [])) (d3 : u3 ≡ noUpdate) (updates : List Update) (made-updates : updates ≡ replicate 8256 u3) (size-updates : length updates ≡ 8256) → Sq W (‵ (ShrSlice (named 0) κ-input-starts usize .own (ref-input-starts γ-input-starts input-starts) (sliceVal (b-input-starts, o-input-starts) (length input-starts) ∷ [])) ∷ ‵ (ShrSlice (named 1) κ-input-rows usize .own (ref-input-rows γ-input-rows input-rows) (sliceVal (b-input-rows, o-input-rows) (length input-rows) ∷ [])) ∷ ‵ (ShrSlice (named 2) κ-input-values f64 .own (ref-input-values γ-input-values input-values) (sliceVal (b-input-values, o-input-values) (length input-values) ∷ [])) ∷ ‵ (ShrSlice (named 3) κ-list usize .own (ref-list γ-list «list») (sliceVal (b-list, o-list) (length «list») ∷ [])) ∷ ‵ (MutSlice (named 4) κ-permutation usize .own (ref-permutation γ-permutation permutation) (sliceVal (b-permutation, o-permutation) (length permutation) ∷ [])) ∷ ‵ (MutSlice (named 5) κ-firsts usize .own (ref-firsts γ-firsts firsts) (sliceVal (b-firsts, o-firsts) (length firsts) ∷ [])) ∷ ‵ (MutSlice (named 6) κ-starts usize .own (ref-starts γ-starts starts) (sliceVal (b-starts, o-starts) (length starts) ∷ [])) ∷ ‵ (MutSlice (named 7) κ-groups usize .own (ref-groups γ-groups groups) (sliceVal (b-groups, o-groups) (length groups) ∷ [])) ∷ ‵ (MutSlice (named 8) κ-tasks usize .own (ref-tasks γ-tasks tasks) (sliceVal (b-tasks, o-tasks) (length tasks) ∷ [])) ∷ ‵ (MutSlice (named 9) κ-top usize .own (ref-top γ-top top) (sliceVal (b-top, o-top) (length top) ∷ [])) ∷ ‵ (MutSlice (named 10) κ-words usize .own (ref-words γ-words words) (sliceVal (b-words, o-words) (length words) ∷ [])) ∷ ‵ (MutSlice (named 11) κ-floats f64 .own (ref-floats γ-floats floats) (sliceVal (b-floats, o-floats) (length floats) ∷ [])) ∷ ‵ (MutSlice (named 12) κ-rows usize .own (ref-rows γ-rows rows) (sliceVal (b-rows, o-rows) (length rows) ∷ [])) ∷ ‵ (MutSlice (named 13) κ-values f64 .own (ref-values γ-values values) (sliceVal (b-values, o-values) (length values) ∷ [])) ∷ ‵ (MutSlice (named 14) κ-b f64 .own (ref-b γ-b b) (sliceVal (b-b, o-b) (length b) ∷ [])) ∷ ‵ (MutRef (named 15) κ-out (Array u8 2959) .own (ref-out γ-out out) (s-out ∷ [])) ∷ ‵ (flft κ-input-starts q-input-starts) ∷ ‵ (flft κ-input-rows q-input-rows) ∷ ‵ (flft κ-input-values q-input-values) ∷ ‵ (flft κ-list q-list) ∷ ‵ (flft κ-permutation q-permutation) ∷ ‵ (flft κ-firsts q-firsts) ∷ ‵ (flft κ-starts q-starts) ∷ ‵ (flft κ-groups q-groups) ∷ ‵ (flft κ-tasks q-tasks) ∷ ‵ (flft κ-top q-top) ∷ ‵ (flft κ-words q-words) ∷ ‵ (flft κ-floats q-floats) ∷ ‵ (flft κ-rows q-rows) ∷ ‵ (flft κ-values q-values) ∷ ‵ (flft κ-b q-b) ∷ ‵ (flft κ-out q-out) ∷ ‵ (froom ty0 l0 0) ∷ ‵ (fat fullShare ty1 l1 0 (vint w64 n)) ∷ ‵ (fat fullShare ty2 l2 0 s-input-starts) ∷ ‵ (fat fullShare ty3 l3 0 s-input-rows) ∷ ‵ (fat fullShare ty4 l4 0 s-input-values) ∷ ‵ (fat fullShare ty5 l5 0 (vint w64 cap)) ∷ ‵ (fat fullShare ty6 l6 0 s-list) ∷ ‵ (fat fullShare ty7 l7 0 s-permutation) ∷ ‵ (fat fullShare ty8 l8 0 s-firsts) ∷ ‵ (fat fullShare ty9 l9 0 s-starts) ∷ ‵ (fat fullShare ty10 l10 0 s-groups) ∷ ‵ (fat fullShare ty11 l11 0 s-tasks) ∷ ‵ (fat fullShare ty12 l12 0 s-top) ∷ ‵ (fat fullShare ty13 l13 0 s-words) ∷ ‵ (fat fullShare ty14 l14 0 s-floats) ∷ ‵ (fat fullShare ty15 l15 0 s-rows) ∷ ‵ (fat fullShare ty16 l16 0 s-values) ∷ ‵ (fat fullShare ty17 l17 0 s-b) ∷ ‵ (fat fullShare ty18 l18 0 s-out) ∷ ‵ (fat fullShare ty19 l19 0 r1) ∷ ‵ (fat fullShare ty20 l20 0 r2) ∷ ‵ (fat fullShare ty21 l21 0 r3) ∷ ‵ (Lies T-Update.the-row 8256 l22 0 updates) ∷ ‵ (froom ty23 l23 0) ∷ raw (Packed 𝓤 H A spare4) ∷ raw (Packed 𝓤 H A spare5) ∷ raw (Packed 𝓤 H A dying) ∷ []) (runs C Λ En body.t-5 (atRet En Post))
       with-updates u1 r1 is1 d1 u2 r2 is2 d2 u3 r3 is3 d3 updates made-updates size-updates =
@@ -557,40 +547,49 @@ module _ {M : Type 1} (𝓤 : URA M) (H : Heap 𝓤) (A : Atoms 𝓤) (W : Given
           w-move ! (25 ∷ []) $ use1 W (‵ (ShrSlice (named 1) κ-input-rows usize .own (ref-input-rows γ-input-rows input-rows) (sliceVal (b-input-rows, o-input-rows) (length input-rows) ∷ [])) ⊛ ‵ (ShrSlice (named 1) κ-input-rows usize .own (ref-input-rows γ-input-rows input-rows) (sliceVal (b-input-rows, o-input-rows) (length input-rows) ∷ []))) (shr-slice-copy 𝓤 H A W (named 1) κ-input-rows usize .twice (ref-input-rows γ-input-rows input-rows) (s-input-rows ∷ [])) $ w-split ! $
           w-move ! (27 ∷ []) $ use1 W (‵ (ShrSlice (named 2) κ-input-values f64 .own (ref-input-values γ-input-values input-values) (sliceVal (b-input-values, o-input-values) (length input-values) ∷ [])) ⊛ ‵ (ShrSlice (named 2) κ-input-values f64 .own (ref-input-values γ-input-values input-values) (sliceVal (b-input-values, o-input-values) (length input-values) ∷ []))) (shr-slice-copy 𝓤 H A W (named 2) κ-input-values f64 .twice (ref-input-values γ-input-values input-values) (s-input-values ∷ [])) $ w-split ! $
           w-move ! (29 ∷ []) $ use1 W (‵ (ShrSlice (named 3) κ-list usize .own (ref-list γ-list «list») (sliceVal (b-list, o-list) (length «list») ∷ [])) ⊛ ‵ (ShrSlice (named 3) κ-list usize .own (ref-list γ-list «list») (sliceVal (b-list, o-list) (length «list») ∷ []))) (shr-slice-copy 𝓤 H A W (named 3) κ-list usize .twice (ref-list γ-list «list») (s-list ∷ [])) $ w-split ! $
-          w-lft-new ! tt (λ ν4-8. w-move ! (32 ∷ 46 ∷ []) $ use2 W (later (some (λ (δ : GName). ‵ (MutSlice (named 4) (ν4-8 ∷ []) usize .own (ref-permutation δ permutation) (sliceVal (b-permutation, o-permutation) (length permutation) ∷ [])) ⊛ ‵ (LentAgain usize κ-permutation (ν4-8 ∷ []) q-permutation γ-permutation b-permutation o-permutation δ permutation)))) (lends-again usize κ-permutation (ν4-8 ∷ []) q-permutation γ-permutation b-permutation o-permutation 𝓤 H A W (named 4) (named 4) permutation) $ w-await ! tt $ w-pick ! (λ δ4-8. w-split ! $
-          w-lft-new ! tt (λ ν4-9. w-move ! (35 ∷ 48 ∷ []) $ use2 W (later (some (λ (δ : GName). ‵ (MutSlice (named 5) (ν4-9 ∷ []) usize .own (ref-firsts δ firsts) (sliceVal (b-firsts, o-firsts) (length firsts) ∷ [])) ⊛ ‵ (LentAgain usize κ-firsts (ν4-9 ∷ []) q-firsts γ-firsts b-firsts o-firsts δ firsts)))) (lends-again usize κ-firsts (ν4-9 ∷ []) q-firsts γ-firsts b-firsts o-firsts 𝓤 H A W (named 5) (named 5) firsts) $ w-await ! tt $ w-pick ! (λ δ4-9. w-split ! $
-          w-lft-new ! tt (λ ν4-10. w-move ! (38 ∷ 50 ∷ []) $ use2 W (later (some (λ (δ : GName). ‵ (MutSlice (named 6) (ν4-10 ∷ []) usize .own (ref-starts δ starts) (sliceVal (b-starts, o-starts) (length starts) ∷ [])) ⊛ ‵ (LentAgain usize κ-starts (ν4-10 ∷ []) q-starts γ-starts b-starts o-starts δ starts)))) (lends-again usize κ-starts (ν4-10 ∷ []) q-starts γ-starts b-starts o-starts 𝓤 H A W (named 6) (named 6) starts) $ w-await ! tt $ w-pick ! (λ δ4-10. w-split ! $
-          w-lft-new ! tt (λ ν4-11. w-move ! (41 ∷ 52 ∷ []) $ use2 W (later (some (λ (δ : GName). ‵ (MutSlice (named 7) (ν4-11 ∷ []) usize .own (ref-groups δ groups) (sliceVal (b-groups, o-groups) (length groups) ∷ [])) ⊛ ‵ (LentAgain usize κ-groups (ν4-11 ∷ []) q-groups γ-groups b-groups o-groups δ groups)))) (lends-again usize κ-groups (ν4-11 ∷ []) q-groups γ-groups b-groups o-groups 𝓤 H A W (named 7) (named 7) groups) $ w-await ! tt $ w-pick ! (λ δ4-11. w-split ! $
-          w-lft-new ! tt (λ ν4-12. w-move ! (44 ∷ 54 ∷ []) $ use2 W (later (some (λ (δ : GName). ‵ (MutSlice (named 8) (ν4-12 ∷ []) usize .own (ref-tasks δ tasks) (sliceVal (b-tasks, o-tasks) (length tasks) ∷ [])) ⊛ ‵ (LentAgain usize κ-tasks (ν4-12 ∷ []) q-tasks γ-tasks b-tasks o-tasks δ tasks)))) (lends-again usize κ-tasks (ν4-12 ∷ []) q-tasks γ-tasks b-tasks o-tasks 𝓤 H A W (named 8) (named 8) tasks) $ w-await ! tt $ w-pick ! (λ δ4-12. w-split ! $
-          w-lft-new ! tt (λ ν4-13. w-move ! (47 ∷ 56 ∷ []) $ use2 W (later (some (λ (δ : GName). ‵ (MutSlice (named 9) (ν4-13 ∷ []) usize .own (ref-top δ top) (sliceVal (b-top, o-top) (length top) ∷ [])) ⊛ ‵ (LentAgain usize κ-top (ν4-13 ∷ []) q-top γ-top b-top o-top δ top)))) (lends-again usize κ-top (ν4-13 ∷ []) q-top γ-top b-top o-top 𝓤 H A W (named 9) (named 9) top) $ w-await ! tt $ w-pick ! (λ δ4-13. w-split ! $
-          w-lft-new ! tt (λ ν4-14. w-move ! (50 ∷ 58 ∷ []) $ use2 W (later (some (λ (δ : GName). ‵ (MutSlice (named 10) (ν4-14 ∷ []) usize .own (ref-words δ words) (sliceVal (b-words, o-words) (length words) ∷ [])) ⊛ ‵ (LentAgain usize κ-words (ν4-14 ∷ []) q-words γ-words b-words o-words δ words)))) (lends-again usize κ-words (ν4-14 ∷ []) q-words γ-words b-words o-words 𝓤 H A W (named 10) (named 10) words) $ w-await ! tt $ w-pick ! (λ δ4-14. w-split ! $
-          w-lft-new ! tt (λ ν4-15. w-move ! (53 ∷ 60 ∷ []) $ use2 W (later (some (λ (δ : GName). ‵ (MutSlice (named 11) (ν4-15 ∷ []) f64 .own (ref-floats δ floats) (sliceVal (b-floats, o-floats) (length floats) ∷ [])) ⊛ ‵ (LentAgain f64 κ-floats (ν4-15 ∷ []) q-floats γ-floats b-floats o-floats δ floats)))) (lends-again f64 κ-floats (ν4-15 ∷ []) q-floats γ-floats b-floats o-floats 𝓤 H A W (named 11) (named 11) floats) $ w-await ! tt $ w-pick ! (λ δ4-15. w-split ! $
-          w-lft-new ! tt (λ ν4-16. w-move ! (56 ∷ 62 ∷ []) $ use2 W (later (some (λ (δ : GName). ‵ (MutSlice (named 12) (ν4-16 ∷ []) usize .own (ref-rows δ rows) (sliceVal (b-rows, o-rows) (length rows) ∷ [])) ⊛ ‵ (LentAgain usize κ-rows (ν4-16 ∷ []) q-rows γ-rows b-rows o-rows δ rows)))) (lends-again usize κ-rows (ν4-16 ∷ []) q-rows γ-rows b-rows o-rows 𝓤 H A W (named 12) (named 12) rows) $ w-await ! tt $ w-pick ! (λ δ4-16. w-split ! $
+          w-move ! (31 ∷ 45 ∷ []) $ w-lend ! tt usize κ-permutation q-permutation γ-permutation b-permutation o-permutation (named 4) (named 4) permutation (length permutation) refl (λ ν4-8 δ4-8.
+          w-move ! (34 ∷ 47 ∷ []) $ w-lend ! tt usize κ-firsts q-firsts γ-firsts b-firsts o-firsts (named 5) (named 5) firsts (length firsts) refl (λ ν4-9 δ4-9.
+          w-written ! (‵ (MutSlice (named 5) (ν4-9 ∷ []) usize .own (ref-firsts δ4-9 firsts) (s-firsts ∷ [])) ∷ ‵ (LentAgain usize κ-firsts (ν4-9 ∷ []) q-firsts γ-firsts b-firsts o-firsts δ4-9 firsts) ∷ ‵ (flft (ν4-9 ∷ []) fullShare) ∷ ‵ (MutSlice (named 4) (ν4-8 ∷ []) usize .own (ref-permutation δ4-8 permutation) (s-permutation ∷ [])) ∷ ‵ (LentAgain usize κ-permutation (ν4-8 ∷ []) q-permutation γ-permutation b-permutation o-permutation δ4-8 permutation) ∷ ‵ (flft (ν4-8 ∷ []) fullShare) ∷ ‵ (ShrSlice (named 3) κ-list usize .own (ref-list γ-list «list») (sliceVal (b-list, o-list) (length «list») ∷ [])) ∷ ‵ (ShrSlice (named 3) κ-list usize .own (ref-list γ-list «list») (sliceVal (b-list, o-list) (length «list») ∷ [])) ∷ ‵ (ShrSlice (named 2) κ-input-values f64 .own (ref-input-values γ-input-values input-values) (sliceVal (b-input-values, o-input-values) (length input-values) ∷ [])) ∷ ‵ (ShrSlice (named 2) κ-input-values f64 .own (ref-input-values γ-input-values input-values) (sliceVal (b-input-values, o-input-values) (length input-values) ∷ [])) ∷ ‵ (ShrSlice (named 1) κ-input-rows usize .own (ref-input-rows γ-input-rows input-rows) (sliceVal (b-input-rows, o-input-rows) (length input-rows) ∷ [])) ∷ ‵ (ShrSlice (named 1) κ-input-rows usize .own (ref-input-rows γ-input-rows input-rows) (sliceVal (b-input-rows, o-input-rows) (length input-rows) ∷ [])) ∷ ‵ (ShrSlice (named 0) κ-input-starts usize .own (ref-input-starts γ-input-starts input-starts) (sliceVal (b-input-starts, o-input-starts) (length input-starts) ∷ [])) ∷ ‵ (ShrSlice (named 0) κ-input-starts usize .own (ref-input-starts γ-input-starts input-starts) (sliceVal (b-input-starts, o-input-starts) (length input-starts) ∷ [])) ∷ raw (Packed 𝓤 H A (‵ (MutSlice (named 14) κ-b f64 .own (ref-b γ-b b) (sliceVal (b-b, o-b) (length b) ∷ [])) ∷ ‵ (MutRef (named 15) κ-out (Array u8 2959) .own (ref-out γ-out out) (s-out ∷ [])) ∷ ‵ (flft κ-b q-b) ∷ ‵ (flft κ-out q-out) ∷ ‵ (fat fullShare ty17 l17 0 s-b) ∷ ‵ (fat fullShare ty18 l18 0 s-out) ∷ ‵ (fat fullShare ty21 l21 0 r3) ∷ raw (Packed 𝓤 H A spare5) ∷ raw (Packed 𝓤 H A dying) ∷ [])) ∷ ‵ (fat fullShare ty24 l24 0 (vptr b-permutation o-permutation)) ∷ ‵ (fat fullShare ty25 l25 0 s-permutation) ∷ ‵ (fat fullShare ty26 l26 0 (vptr b-firsts o-firsts)) ∷ ‵ (fat fullShare ty27 l27 0 s-firsts) ∷ ‵ (fat fullShare ty28 l28 0 (vptr b-starts o-starts)) ∷ ‵ (fat fullShare ty29 l29 0 s-starts) ∷ ‵ (fat fullShare ty30 l30 0 (vptr b-groups o-groups)) ∷ ‵ (fat fullShare ty31 l31 0 s-groups) ∷ ‵ (fat fullShare ty32 l32 0 (vptr b-tasks o-tasks)) ∷ ‵ (fat fullShare ty33 l33 0 s-tasks) ∷ ‵ (fat fullShare ty34 l34 0 (vptr b-top o-top)) ∷ ‵ (fat fullShare ty35 l35 0 s-top) ∷ ‵ (fat fullShare ty36 l36 0 (vptr b-words o-words)) ∷ ‵ (fat fullShare ty37 l37 0 s-words) ∷ ‵ (fat fullShare ty38 l38 0 (vptr b-floats o-floats)) ∷ ‵ (fat fullShare ty39 l39 0 s-floats) ∷ ‵ (fat fullShare ty40 l40 0 (vptr b-rows o-rows)) ∷ ‵ (fat fullShare ty41 l41 0 s-rows) ∷ ‵ (fat fullShare ty42 l42 0 (vptr l22 0)) ∷ ‵ (fat fullShare ty43 l43 0 (sliceVal (l22, 0) (length updates))) ∷ ‵ (fat fullShare ty44 l44 0 (vptr b-values o-values)) ∷ ‵ (fat fullShare ty45 l45 0 s-values) ∷ ‵ (MutSlice (named 6) κ-starts usize .own (ref-starts γ-starts starts) (sliceVal (b-starts, o-starts) (length starts) ∷ [])) ∷ ‵ (MutSlice (named 7) κ-groups usize .own (ref-groups γ-groups groups) (sliceVal (b-groups, o-groups) (length groups) ∷ [])) ∷ ‵ (MutSlice (named 8) κ-tasks usize .own (ref-tasks γ-tasks tasks) (sliceVal (b-tasks, o-tasks) (length tasks) ∷ [])) ∷ ‵ (MutSlice (named 9) κ-top usize .own (ref-top γ-top top) (sliceVal (b-top, o-top) (length top) ∷ [])) ∷ ‵ (MutSlice (named 10) κ-words usize .own (ref-words γ-words words) (sliceVal (b-words, o-words) (length words) ∷ [])) ∷ ‵ (MutSlice (named 11) κ-floats f64 .own (ref-floats γ-floats floats) (sliceVal (b-floats, o-floats) (length floats) ∷ [])) ∷ ‵ (MutSlice (named 12) κ-rows usize .own (ref-rows γ-rows rows) (sliceVal (b-rows, o-rows) (length rows) ∷ [])) ∷ ‵ (MutSlice (named 13) κ-values f64 .own (ref-values γ-values values) (sliceVal (b-values, o-values) (length values) ∷ [])) ∷ ‵ (flft κ-input-starts q-input-starts) ∷ ‵ (flft κ-input-rows q-input-rows) ∷ ‵ (flft κ-input-values q-input-values) ∷ ‵ (flft κ-list q-list) ∷ ‵ (flft κ-starts q-starts) ∷ ‵ (flft κ-groups q-groups) ∷ ‵ (flft κ-tasks q-tasks) ∷ ‵ (flft κ-top q-top) ∷ ‵ (flft κ-words q-words) ∷ ‵ (flft κ-floats q-floats) ∷ ‵ (flft κ-rows q-rows) ∷ ‵ (flft κ-values q-values) ∷ ‵ (froom ty0 l0 0) ∷ ‵ (fat fullShare ty1 l1 0 (vint w64 n)) ∷ ‵ (fat fullShare ty2 l2 0 s-input-starts) ∷ ‵ (fat fullShare ty3 l3 0 s-input-rows) ∷ ‵ (fat fullShare ty4 l4 0 s-input-values) ∷ ‵ (fat fullShare ty5 l5 0 (vint w64 cap)) ∷ ‵ (fat fullShare ty6 l6 0 s-list) ∷ ‵ (fat fullShare ty7 l7 0 s-permutation) ∷ ‵ (fat fullShare ty8 l8 0 s-firsts) ∷ ‵ (fat fullShare ty9 l9 0 s-starts) ∷ ‵ (fat fullShare ty10 l10 0 s-groups) ∷ ‵ (fat fullShare ty11 l11 0 s-tasks) ∷ ‵ (fat fullShare ty12 l12 0 s-top) ∷ ‵ (fat fullShare ty13 l13 0 s-words) ∷ ‵ (fat fullShare ty14 l14 0 s-floats) ∷ ‵ (fat fullShare ty15 l15 0 s-rows) ∷ ‵ (fat fullShare ty16 l16 0 s-values) ∷ ‵ (fat fullShare ty19 l19 0 r1) ∷ ‵ (fat fullShare ty20 l20 0 r2) ∷ ‵ (Lies T-Update.the-row 8256 l22 0 updates) ∷ ‵ (froom ty23 l23 0) ∷ []) $
+          w-move ! (37 ∷ 49 ∷ []) $ w-lend ! tt usize κ-starts q-starts γ-starts b-starts o-starts (named 6) (named 6) starts (length starts) refl (λ ν4-10 δ4-10.
+          w-move ! (40 ∷ 51 ∷ []) $ w-lend ! tt usize κ-groups q-groups γ-groups b-groups o-groups (named 7) (named 7) groups (length groups) refl (λ ν4-11 δ4-11.
+          w-move ! (43 ∷ 53 ∷ []) $ w-lend ! tt usize κ-tasks q-tasks γ-tasks b-tasks o-tasks (named 8) (named 8) tasks (length tasks) refl (λ ν4-12 δ4-12.
+          w-written ! (‵ (MutSlice (named 8) (ν4-12 ∷ []) usize .own (ref-tasks δ4-12 tasks) (s-tasks ∷ [])) ∷ ‵ (LentAgain usize κ-tasks (ν4-12 ∷ []) q-tasks γ-tasks b-tasks o-tasks δ4-12 tasks) ∷ ‵ (flft (ν4-12 ∷ []) fullShare) ∷ ‵ (MutSlice (named 7) (ν4-11 ∷ []) usize .own (ref-groups δ4-11 groups) (s-groups ∷ [])) ∷ ‵ (LentAgain usize κ-groups (ν4-11 ∷ []) q-groups γ-groups b-groups o-groups δ4-11 groups) ∷ ‵ (flft (ν4-11 ∷ []) fullShare) ∷ ‵ (MutSlice (named 6) (ν4-10 ∷ []) usize .own (ref-starts δ4-10 starts) (s-starts ∷ [])) ∷ ‵ (LentAgain usize κ-starts (ν4-10 ∷ []) q-starts γ-starts b-starts o-starts δ4-10 starts) ∷ ‵ (flft (ν4-10 ∷ []) fullShare) ∷ ‵ (MutSlice (named 5) (ν4-9 ∷ []) usize .own (ref-firsts δ4-9 firsts) (s-firsts ∷ [])) ∷ ‵ (LentAgain usize κ-firsts (ν4-9 ∷ []) q-firsts γ-firsts b-firsts o-firsts δ4-9 firsts) ∷ ‵ (flft (ν4-9 ∷ []) fullShare) ∷ ‵ (MutSlice (named 4) (ν4-8 ∷ []) usize .own (ref-permutation δ4-8 permutation) (s-permutation ∷ [])) ∷ ‵ (LentAgain usize κ-permutation (ν4-8 ∷ []) q-permutation γ-permutation b-permutation o-permutation δ4-8 permutation) ∷ ‵ (flft (ν4-8 ∷ []) fullShare) ∷ ‵ (ShrSlice (named 3) κ-list usize .own (ref-list γ-list «list») (sliceVal (b-list, o-list) (length «list») ∷ [])) ∷ ‵ (ShrSlice (named 3) κ-list usize .own (ref-list γ-list «list») (sliceVal (b-list, o-list) (length «list») ∷ [])) ∷ ‵ (ShrSlice (named 2) κ-input-values f64 .own (ref-input-values γ-input-values input-values) (sliceVal (b-input-values, o-input-values) (length input-values) ∷ [])) ∷ ‵ (ShrSlice (named 2) κ-input-values f64 .own (ref-input-values γ-input-values input-values) (sliceVal (b-input-values, o-input-values) (length input-values) ∷ [])) ∷ ‵ (ShrSlice (named 1) κ-input-rows usize .own (ref-input-rows γ-input-rows input-rows) (sliceVal (b-input-rows, o-input-rows) (length input-rows) ∷ [])) ∷ ‵ (ShrSlice (named 1) κ-input-rows usize .own (ref-input-rows γ-input-rows input-rows) (sliceVal (b-input-rows, o-input-rows) (length input-rows) ∷ [])) ∷ ‵ (ShrSlice (named 0) κ-input-starts usize .own (ref-input-starts γ-input-starts input-starts) (sliceVal (b-input-starts, o-input-starts) (length input-starts) ∷ [])) ∷ ‵ (ShrSlice (named 0) κ-input-starts usize .own (ref-input-starts γ-input-starts input-starts) (sliceVal (b-input-starts, o-input-starts) (length input-starts) ∷ [])) ∷ raw (Packed 𝓤 H A (‵ (MutSlice (named 14) κ-b f64 .own (ref-b γ-b b) (sliceVal (b-b, o-b) (length b) ∷ [])) ∷ ‵ (MutRef (named 15) κ-out (Array u8 2959) .own (ref-out γ-out out) (s-out ∷ [])) ∷ ‵ (flft κ-b q-b) ∷ ‵ (flft κ-out q-out) ∷ ‵ (fat fullShare ty17 l17 0 s-b) ∷ ‵ (fat fullShare ty18 l18 0 s-out) ∷ ‵ (fat fullShare ty21 l21 0 r3) ∷ raw (Packed 𝓤 H A spare5) ∷ raw (Packed 𝓤 H A dying) ∷ [])) ∷ ‵ (fat fullShare ty24 l24 0 (vptr b-permutation o-permutation)) ∷ ‵ (fat fullShare ty25 l25 0 s-permutation) ∷ ‵ (fat fullShare ty26 l26 0 (vptr b-firsts o-firsts)) ∷ ‵ (fat fullShare ty27 l27 0 s-firsts) ∷ ‵ (fat fullShare ty28 l28 0 (vptr b-starts o-starts)) ∷ ‵ (fat fullShare ty29 l29 0 s-starts) ∷ ‵ (fat fullShare ty30 l30 0 (vptr b-groups o-groups)) ∷ ‵ (fat fullShare ty31 l31 0 s-groups) ∷ ‵ (fat fullShare ty32 l32 0 (vptr b-tasks o-tasks)) ∷ ‵ (fat fullShare ty33 l33 0 s-tasks) ∷ ‵ (fat fullShare ty34 l34 0 (vptr b-top o-top)) ∷ ‵ (fat fullShare ty35 l35 0 s-top) ∷ ‵ (fat fullShare ty36 l36 0 (vptr b-words o-words)) ∷ ‵ (fat fullShare ty37 l37 0 s-words) ∷ ‵ (fat fullShare ty38 l38 0 (vptr b-floats o-floats)) ∷ ‵ (fat fullShare ty39 l39 0 s-floats) ∷ ‵ (fat fullShare ty40 l40 0 (vptr b-rows o-rows)) ∷ ‵ (fat fullShare ty41 l41 0 s-rows) ∷ ‵ (fat fullShare ty42 l42 0 (vptr l22 0)) ∷ ‵ (fat fullShare ty43 l43 0 (sliceVal (l22, 0) (length updates))) ∷ ‵ (fat fullShare ty44 l44 0 (vptr b-values o-values)) ∷ ‵ (fat fullShare ty45 l45 0 s-values) ∷ ‵ (MutSlice (named 9) κ-top usize .own (ref-top γ-top top) (sliceVal (b-top, o-top) (length top) ∷ [])) ∷ ‵ (MutSlice (named 10) κ-words usize .own (ref-words γ-words words) (sliceVal (b-words, o-words) (length words) ∷ [])) ∷ ‵ (MutSlice (named 11) κ-floats f64 .own (ref-floats γ-floats floats) (sliceVal (b-floats, o-floats) (length floats) ∷ [])) ∷ ‵ (MutSlice (named 12) κ-rows usize .own (ref-rows γ-rows rows) (sliceVal (b-rows, o-rows) (length rows) ∷ [])) ∷ ‵ (MutSlice (named 13) κ-values f64 .own (ref-values γ-values values) (sliceVal (b-values, o-values) (length values) ∷ [])) ∷ ‵ (flft κ-input-starts q-input-starts) ∷ ‵ (flft κ-input-rows q-input-rows) ∷ ‵ (flft κ-input-values q-input-values) ∷ ‵ (flft κ-list q-list) ∷ ‵ (flft κ-top q-top) ∷ ‵ (flft κ-words q-words) ∷ ‵ (flft κ-floats q-floats) ∷ ‵ (flft κ-rows q-rows) ∷ ‵ (flft κ-values q-values) ∷ ‵ (froom ty0 l0 0) ∷ ‵ (fat fullShare ty1 l1 0 (vint w64 n)) ∷ ‵ (fat fullShare ty2 l2 0 s-input-starts) ∷ ‵ (fat fullShare ty3 l3 0 s-input-rows) ∷ ‵ (fat fullShare ty4 l4 0 s-input-values) ∷ ‵ (fat fullShare ty5 l5 0 (vint w64 cap)) ∷ ‵ (fat fullShare ty6 l6 0 s-list) ∷ ‵ (fat fullShare ty7 l7 0 s-permutation) ∷ ‵ (fat fullShare ty8 l8 0 s-firsts) ∷ ‵ (fat fullShare ty9 l9 0 s-starts) ∷ ‵ (fat fullShare ty10 l10 0 s-groups) ∷ ‵ (fat fullShare ty11 l11 0 s-tasks) ∷ ‵ (fat fullShare ty12 l12 0 s-top) ∷ ‵ (fat fullShare ty13 l13 0 s-words) ∷ ‵ (fat fullShare ty14 l14 0 s-floats) ∷ ‵ (fat fullShare ty15 l15 0 s-rows) ∷ ‵ (fat fullShare ty16 l16 0 s-values) ∷ ‵ (fat fullShare ty19 l19 0 r1) ∷ ‵ (fat fullShare ty20 l20 0 r2) ∷ ‵ (Lies T-Update.the-row 8256 l22 0 updates) ∷ ‵ (froom ty23 l23 0) ∷ []) $
+          w-move ! (46 ∷ 55 ∷ []) $ w-lend ! tt usize κ-top q-top γ-top b-top o-top (named 9) (named 9) top (length top) refl (λ ν4-13 δ4-13.
+          w-move ! (49 ∷ 57 ∷ []) $ w-lend ! tt usize κ-words q-words γ-words b-words o-words (named 10) (named 10) words (length words) refl (λ ν4-14 δ4-14.
+          w-move ! (52 ∷ 59 ∷ []) $ w-lend ! tt f64 κ-floats q-floats γ-floats b-floats o-floats (named 11) (named 11) floats (length floats) refl (λ ν4-15 δ4-15.
+          w-written ! (‵ (MutSlice (named 11) (ν4-15 ∷ []) f64 .own (ref-floats δ4-15 floats) (s-floats ∷ [])) ∷ ‵ (LentAgain f64 κ-floats (ν4-15 ∷ []) q-floats γ-floats b-floats o-floats δ4-15 floats) ∷ ‵ (flft (ν4-15 ∷ []) fullShare) ∷ ‵ (MutSlice (named 10) (ν4-14 ∷ []) usize .own (ref-words δ4-14 words) (s-words ∷ [])) ∷ ‵ (LentAgain usize κ-words (ν4-14 ∷ []) q-words γ-words b-words o-words δ4-14 words) ∷ ‵ (flft (ν4-14 ∷ []) fullShare) ∷ ‵ (MutSlice (named 9) (ν4-13 ∷ []) usize .own (ref-top δ4-13 top) (s-top ∷ [])) ∷ ‵ (LentAgain usize κ-top (ν4-13 ∷ []) q-top γ-top b-top o-top δ4-13 top) ∷ ‵ (flft (ν4-13 ∷ []) fullShare) ∷ ‵ (MutSlice (named 8) (ν4-12 ∷ []) usize .own (ref-tasks δ4-12 tasks) (s-tasks ∷ [])) ∷ ‵ (LentAgain usize κ-tasks (ν4-12 ∷ []) q-tasks γ-tasks b-tasks o-tasks δ4-12 tasks) ∷ ‵ (flft (ν4-12 ∷ []) fullShare) ∷ ‵ (MutSlice (named 7) (ν4-11 ∷ []) usize .own (ref-groups δ4-11 groups) (s-groups ∷ [])) ∷ ‵ (LentAgain usize κ-groups (ν4-11 ∷ []) q-groups γ-groups b-groups o-groups δ4-11 groups) ∷ ‵ (flft (ν4-11 ∷ []) fullShare) ∷ ‵ (MutSlice (named 6) (ν4-10 ∷ []) usize .own (ref-starts δ4-10 starts) (s-starts ∷ [])) ∷ ‵ (LentAgain usize κ-starts (ν4-10 ∷ []) q-starts γ-starts b-starts o-starts δ4-10 starts) ∷ ‵ (flft (ν4-10 ∷ []) fullShare) ∷ ‵ (MutSlice (named 5) (ν4-9 ∷ []) usize .own (ref-firsts δ4-9 firsts) (s-firsts ∷ [])) ∷ ‵ (LentAgain usize κ-firsts (ν4-9 ∷ []) q-firsts γ-firsts b-firsts o-firsts δ4-9 firsts) ∷ ‵ (flft (ν4-9 ∷ []) fullShare) ∷ ‵ (MutSlice (named 4) (ν4-8 ∷ []) usize .own (ref-permutation δ4-8 permutation) (s-permutation ∷ [])) ∷ ‵ (LentAgain usize κ-permutation (ν4-8 ∷ []) q-permutation γ-permutation b-permutation o-permutation δ4-8 permutation) ∷ ‵ (flft (ν4-8 ∷ []) fullShare) ∷ ‵ (ShrSlice (named 3) κ-list usize .own (ref-list γ-list «list») (sliceVal (b-list, o-list) (length «list») ∷ [])) ∷ ‵ (ShrSlice (named 3) κ-list usize .own (ref-list γ-list «list») (sliceVal (b-list, o-list) (length «list») ∷ [])) ∷ ‵ (ShrSlice (named 2) κ-input-values f64 .own (ref-input-values γ-input-values input-values) (sliceVal (b-input-values, o-input-values) (length input-values) ∷ [])) ∷ ‵ (ShrSlice (named 2) κ-input-values f64 .own (ref-input-values γ-input-values input-values) (sliceVal (b-input-values, o-input-values) (length input-values) ∷ [])) ∷ ‵ (ShrSlice (named 1) κ-input-rows usize .own (ref-input-rows γ-input-rows input-rows) (sliceVal (b-input-rows, o-input-rows) (length input-rows) ∷ [])) ∷ ‵ (ShrSlice (named 1) κ-input-rows usize .own (ref-input-rows γ-input-rows input-rows) (sliceVal (b-input-rows, o-input-rows) (length input-rows) ∷ [])) ∷ ‵ (ShrSlice (named 0) κ-input-starts usize .own (ref-input-starts γ-input-starts input-starts) (sliceVal (b-input-starts, o-input-starts) (length input-starts) ∷ [])) ∷ ‵ (ShrSlice (named 0) κ-input-starts usize .own (ref-input-starts γ-input-starts input-starts) (sliceVal (b-input-starts, o-input-starts) (length input-starts) ∷ [])) ∷ raw (Packed 𝓤 H A (‵ (MutSlice (named 14) κ-b f64 .own (ref-b γ-b b) (sliceVal (b-b, o-b) (length b) ∷ [])) ∷ ‵ (MutRef (named 15) κ-out (Array u8 2959) .own (ref-out γ-out out) (s-out ∷ [])) ∷ ‵ (flft κ-b q-b) ∷ ‵ (flft κ-out q-out) ∷ ‵ (fat fullShare ty17 l17 0 s-b) ∷ ‵ (fat fullShare ty18 l18 0 s-out) ∷ ‵ (fat fullShare ty21 l21 0 r3) ∷ raw (Packed 𝓤 H A spare5) ∷ raw (Packed 𝓤 H A dying) ∷ [])) ∷ ‵ (fat fullShare ty24 l24 0 (vptr b-permutation o-permutation)) ∷ ‵ (fat fullShare ty25 l25 0 s-permutation) ∷ ‵ (fat fullShare ty26 l26 0 (vptr b-firsts o-firsts)) ∷ ‵ (fat fullShare ty27 l27 0 s-firsts) ∷ ‵ (fat fullShare ty28 l28 0 (vptr b-starts o-starts)) ∷ ‵ (fat fullShare ty29 l29 0 s-starts) ∷ ‵ (fat fullShare ty30 l30 0 (vptr b-groups o-groups)) ∷ ‵ (fat fullShare ty31 l31 0 s-groups) ∷ ‵ (fat fullShare ty32 l32 0 (vptr b-tasks o-tasks)) ∷ ‵ (fat fullShare ty33 l33 0 s-tasks) ∷ ‵ (fat fullShare ty34 l34 0 (vptr b-top o-top)) ∷ ‵ (fat fullShare ty35 l35 0 s-top) ∷ ‵ (fat fullShare ty36 l36 0 (vptr b-words o-words)) ∷ ‵ (fat fullShare ty37 l37 0 s-words) ∷ ‵ (fat fullShare ty38 l38 0 (vptr b-floats o-floats)) ∷ ‵ (fat fullShare ty39 l39 0 s-floats) ∷ ‵ (fat fullShare ty40 l40 0 (vptr b-rows o-rows)) ∷ ‵ (fat fullShare ty41 l41 0 s-rows) ∷ ‵ (fat fullShare ty42 l42 0 (vptr l22 0)) ∷ ‵ (fat fullShare ty43 l43 0 (sliceVal (l22, 0) (length updates))) ∷ ‵ (fat fullShare ty44 l44 0 (vptr b-values o-values)) ∷ ‵ (fat fullShare ty45 l45 0 s-values) ∷ ‵ (MutSlice (named 12) κ-rows usize .own (ref-rows γ-rows rows) (sliceVal (b-rows, o-rows) (length rows) ∷ [])) ∷ ‵ (MutSlice (named 13) κ-values f64 .own (ref-values γ-values values) (sliceVal (b-values, o-values) (length values) ∷ [])) ∷ ‵ (flft κ-input-starts q-input-starts) ∷ ‵ (flft κ-input-rows q-input-rows) ∷ ‵ (flft κ-input-values q-input-values) ∷ ‵ (flft κ-list q-list) ∷ ‵ (flft κ-rows q-rows) ∷ ‵ (flft κ-values q-values) ∷ ‵ (froom ty0 l0 0) ∷ ‵ (fat fullShare ty1 l1 0 (vint w64 n)) ∷ ‵ (fat fullShare ty2 l2 0 s-input-starts) ∷ ‵ (fat fullShare ty3 l3 0 s-input-rows) ∷ ‵ (fat fullShare ty4 l4 0 s-input-values) ∷ ‵ (fat fullShare ty5 l5 0 (vint w64 cap)) ∷ ‵ (fat fullShare ty6 l6 0 s-list) ∷ ‵ (fat fullShare ty7 l7 0 s-permutation) ∷ ‵ (fat fullShare ty8 l8 0 s-firsts) ∷ ‵ (fat fullShare ty9 l9 0 s-starts) ∷ ‵ (fat fullShare ty10 l10 0 s-groups) ∷ ‵ (fat fullShare ty11 l11 0 s-tasks) ∷ ‵ (fat fullShare ty12 l12 0 s-top) ∷ ‵ (fat fullShare ty13 l13 0 s-words) ∷ ‵ (fat fullShare ty14 l14 0 s-floats) ∷ ‵ (fat fullShare ty15 l15 0 s-rows) ∷ ‵ (fat fullShare ty16 l16 0 s-values) ∷ ‵ (fat fullShare ty19 l19 0 r1) ∷ ‵ (fat fullShare ty20 l20 0 r2) ∷ ‵ (Lies T-Update.the-row 8256 l22 0 updates) ∷ ‵ (froom ty23 l23 0) ∷ []) $
+          w-move ! (55 ∷ 61 ∷ []) $ w-lend ! tt usize κ-rows q-rows γ-rows b-rows o-rows (named 12) (named 12) rows (length rows) refl (λ ν4-16 δ4-16.
           w-lft-new ! tt (λ ν4-17. w-move ! (84 ∷ []) $ use1 W (later (some (λ (δ : GName). ‵ (MutSlice (named 13) (ν4-17 ∷ []) T-Update.the-row .own (ref-updates l22 δ updates) (sliceVal (l22, 0) (length updates) ∷ [])) ⊛ ‵ (LentOwned T-Update.the-row (ν4-17 ∷ []) l22 0 δ updates)))) (lends-owned 𝓤 H A W T-Update.the-row tt 8256 l22 0 (ν4-17 ∷ []) (named 13) updates room-updates size-updates) $ w-await ! tt $ w-pick ! (λ δ4-17. w-split ! $
-          w-lft-new ! tt (λ ν4-18. w-move ! (62 ∷ 67 ∷ []) $ use2 W (later (some (λ (δ : GName). ‵ (MutSlice (named 14) (ν4-18 ∷ []) f64 .own (ref-values δ values) (sliceVal (b-values, o-values) (length values) ∷ [])) ⊛ ‵ (LentAgain f64 κ-values (ν4-18 ∷ []) q-values γ-values b-values o-values δ values)))) (lends-again f64 κ-values (ν4-18 ∷ []) q-values γ-values b-values o-values 𝓤 H A W (named 13) (named 14) values) $ w-await ! tt $ w-pick ! (λ δ4-18. w-split ! $
+          w-move ! (61 ∷ 66 ∷ []) $ w-lend ! tt f64 κ-values q-values γ-values b-values o-values (named 13) (named 14) values (length values) refl (λ ν4-18 δ4-18.
+          w-written ! (‵ (MutSlice (named 14) (ν4-18 ∷ []) f64 .own (ref-values δ4-18 values) (s-values ∷ [])) ∷ ‵ (LentAgain f64 κ-values (ν4-18 ∷ []) q-values γ-values b-values o-values δ4-18 values) ∷ ‵ (flft (ν4-18 ∷ []) fullShare) ∷ ‵ (MutSlice (named 13) (ν4-17 ∷ []) T-Update.the-row .own (ref-updates l22 δ4-17 updates) (sliceVal (l22, 0) (length updates) ∷ [])) ∷ ‵ (LentOwned T-Update.the-row (ν4-17 ∷ []) l22 0 δ4-17 updates) ∷ ‵ (flft (ν4-17 ∷ []) fullShare) ∷ ‵ (MutSlice (named 12) (ν4-16 ∷ []) usize .own (ref-rows δ4-16 rows) (s-rows ∷ [])) ∷ ‵ (LentAgain usize κ-rows (ν4-16 ∷ []) q-rows γ-rows b-rows o-rows δ4-16 rows) ∷ ‵ (flft (ν4-16 ∷ []) fullShare) ∷ ‵ (MutSlice (named 11) (ν4-15 ∷ []) f64 .own (ref-floats δ4-15 floats) (s-floats ∷ [])) ∷ ‵ (LentAgain f64 κ-floats (ν4-15 ∷ []) q-floats γ-floats b-floats o-floats δ4-15 floats) ∷ ‵ (flft (ν4-15 ∷ []) fullShare) ∷ ‵ (MutSlice (named 10) (ν4-14 ∷ []) usize .own (ref-words δ4-14 words) (s-words ∷ [])) ∷ ‵ (LentAgain usize κ-words (ν4-14 ∷ []) q-words γ-words b-words o-words δ4-14 words) ∷ ‵ (flft (ν4-14 ∷ []) fullShare) ∷ ‵ (MutSlice (named 9) (ν4-13 ∷ []) usize .own (ref-top δ4-13 top) (s-top ∷ [])) ∷ ‵ (LentAgain usize κ-top (ν4-13 ∷ []) q-top γ-top b-top o-top δ4-13 top) ∷ ‵ (flft (ν4-13 ∷ []) fullShare) ∷ ‵ (MutSlice (named 8) (ν4-12 ∷ []) usize .own (ref-tasks δ4-12 tasks) (s-tasks ∷ [])) ∷ ‵ (LentAgain usize κ-tasks (ν4-12 ∷ []) q-tasks γ-tasks b-tasks o-tasks δ4-12 tasks) ∷ ‵ (flft (ν4-12 ∷ []) fullShare) ∷ ‵ (MutSlice (named 7) (ν4-11 ∷ []) usize .own (ref-groups δ4-11 groups) (s-groups ∷ [])) ∷ ‵ (LentAgain usize κ-groups (ν4-11 ∷ []) q-groups γ-groups b-groups o-groups δ4-11 groups) ∷ ‵ (flft (ν4-11 ∷ []) fullShare) ∷ ‵ (MutSlice (named 6) (ν4-10 ∷ []) usize .own (ref-starts δ4-10 starts) (s-starts ∷ [])) ∷ ‵ (LentAgain usize κ-starts (ν4-10 ∷ []) q-starts γ-starts b-starts o-starts δ4-10 starts) ∷ ‵ (flft (ν4-10 ∷ []) fullShare) ∷ ‵ (MutSlice (named 5) (ν4-9 ∷ []) usize .own (ref-firsts δ4-9 firsts) (s-firsts ∷ [])) ∷ ‵ (LentAgain usize κ-firsts (ν4-9 ∷ []) q-firsts γ-firsts b-firsts o-firsts δ4-9 firsts) ∷ ‵ (flft (ν4-9 ∷ []) fullShare) ∷ ‵ (MutSlice (named 4) (ν4-8 ∷ []) usize .own (ref-permutation δ4-8 permutation) (s-permutation ∷ [])) ∷ ‵ (LentAgain usize κ-permutation (ν4-8 ∷ []) q-permutation γ-permutation b-permutation o-permutation δ4-8 permutation) ∷ ‵ (flft (ν4-8 ∷ []) fullShare) ∷ ‵ (ShrSlice (named 3) κ-list usize .own (ref-list γ-list «list») (sliceVal (b-list, o-list) (length «list») ∷ [])) ∷ ‵ (ShrSlice (named 3) κ-list usize .own (ref-list γ-list «list») (sliceVal (b-list, o-list) (length «list») ∷ [])) ∷ ‵ (ShrSlice (named 2) κ-input-values f64 .own (ref-input-values γ-input-values input-values) (sliceVal (b-input-values, o-input-values) (length input-values) ∷ [])) ∷ ‵ (ShrSlice (named 2) κ-input-values f64 .own (ref-input-values γ-input-values input-values) (sliceVal (b-input-values, o-input-values) (length input-values) ∷ [])) ∷ ‵ (ShrSlice (named 1) κ-input-rows usize .own (ref-input-rows γ-input-rows input-rows) (sliceVal (b-input-rows, o-input-rows) (length input-rows) ∷ [])) ∷ ‵ (ShrSlice (named 1) κ-input-rows usize .own (ref-input-rows γ-input-rows input-rows) (sliceVal (b-input-rows, o-input-rows) (length input-rows) ∷ [])) ∷ ‵ (ShrSlice (named 0) κ-input-starts usize .own (ref-input-starts γ-input-starts input-starts) (sliceVal (b-input-starts, o-input-starts) (length input-starts) ∷ [])) ∷ ‵ (ShrSlice (named 0) κ-input-starts usize .own (ref-input-starts γ-input-starts input-starts) (sliceVal (b-input-starts, o-input-starts) (length input-starts) ∷ [])) ∷ raw (Packed 𝓤 H A (‵ (MutSlice (named 14) κ-b f64 .own (ref-b γ-b b) (sliceVal (b-b, o-b) (length b) ∷ [])) ∷ ‵ (MutRef (named 15) κ-out (Array u8 2959) .own (ref-out γ-out out) (s-out ∷ [])) ∷ ‵ (flft κ-b q-b) ∷ ‵ (flft κ-out q-out) ∷ ‵ (fat fullShare ty17 l17 0 s-b) ∷ ‵ (fat fullShare ty18 l18 0 s-out) ∷ ‵ (fat fullShare ty21 l21 0 r3) ∷ raw (Packed 𝓤 H A spare5) ∷ raw (Packed 𝓤 H A dying) ∷ [])) ∷ ‵ (fat fullShare ty24 l24 0 (vptr b-permutation o-permutation)) ∷ ‵ (fat fullShare ty25 l25 0 s-permutation) ∷ ‵ (fat fullShare ty26 l26 0 (vptr b-firsts o-firsts)) ∷ ‵ (fat fullShare ty27 l27 0 s-firsts) ∷ ‵ (fat fullShare ty28 l28 0 (vptr b-starts o-starts)) ∷ ‵ (fat fullShare ty29 l29 0 s-starts) ∷ ‵ (fat fullShare ty30 l30 0 (vptr b-groups o-groups)) ∷ ‵ (fat fullShare ty31 l31 0 s-groups) ∷ ‵ (fat fullShare ty32 l32 0 (vptr b-tasks o-tasks)) ∷ ‵ (fat fullShare ty33 l33 0 s-tasks) ∷ ‵ (fat fullShare ty34 l34 0 (vptr b-top o-top)) ∷ ‵ (fat fullShare ty35 l35 0 s-top) ∷ ‵ (fat fullShare ty36 l36 0 (vptr b-words o-words)) ∷ ‵ (fat fullShare ty37 l37 0 s-words) ∷ ‵ (fat fullShare ty38 l38 0 (vptr b-floats o-floats)) ∷ ‵ (fat fullShare ty39 l39 0 s-floats) ∷ ‵ (fat fullShare ty40 l40 0 (vptr b-rows o-rows)) ∷ ‵ (fat fullShare ty41 l41 0 s-rows) ∷ ‵ (fat fullShare ty42 l42 0 (vptr l22 0)) ∷ ‵ (fat fullShare ty43 l43 0 (sliceVal (l22, 0) (length updates))) ∷ ‵ (fat fullShare ty44 l44 0 (vptr b-values o-values)) ∷ ‵ (fat fullShare ty45 l45 0 s-values) ∷ ‵ (flft κ-input-starts q-input-starts) ∷ ‵ (flft κ-input-rows q-input-rows) ∷ ‵ (flft κ-input-values q-input-values) ∷ ‵ (flft κ-list q-list) ∷ ‵ (froom ty0 l0 0) ∷ ‵ (fat fullShare ty1 l1 0 (vint w64 n)) ∷ ‵ (fat fullShare ty2 l2 0 s-input-starts) ∷ ‵ (fat fullShare ty3 l3 0 s-input-rows) ∷ ‵ (fat fullShare ty4 l4 0 s-input-values) ∷ ‵ (fat fullShare ty5 l5 0 (vint w64 cap)) ∷ ‵ (fat fullShare ty6 l6 0 s-list) ∷ ‵ (fat fullShare ty7 l7 0 s-permutation) ∷ ‵ (fat fullShare ty8 l8 0 s-firsts) ∷ ‵ (fat fullShare ty9 l9 0 s-starts) ∷ ‵ (fat fullShare ty10 l10 0 s-groups) ∷ ‵ (fat fullShare ty11 l11 0 s-tasks) ∷ ‵ (fat fullShare ty12 l12 0 s-top) ∷ ‵ (fat fullShare ty13 l13 0 s-words) ∷ ‵ (fat fullShare ty14 l14 0 s-floats) ∷ ‵ (fat fullShare ty15 l15 0 s-rows) ∷ ‵ (fat fullShare ty16 l16 0 s-values) ∷ ‵ (fat fullShare ty19 l19 0 r1) ∷ ‵ (fat fullShare ty20 l20 0 r2) ∷ ‵ (froom ty23 l23 0) ∷ []) $
           w-nothing ! $ w-move ! (1 ∷ 0 ∷ []) $ w-fjoin ! $ w-move ! (3 ∷ 0 ∷ []) $ w-fjoin ! $ w-move ! (5 ∷ 0 ∷ []) $ w-fjoin ! $ w-move ! (7 ∷ 0 ∷ []) $ w-fjoin ! $ w-move ! (9 ∷ 0 ∷ []) $ w-fjoin ! $ w-move ! (11 ∷ 0 ∷ []) $ w-fjoin ! $ w-move ! (13 ∷ 0 ∷ []) $ w-fjoin ! $ w-move ! (15 ∷ 0 ∷ []) $ w-fjoin ! $ w-move ! (17 ∷ 0 ∷ []) $ w-fjoin ! $ w-move ! (19 ∷ 0 ∷ []) $ w-fjoin ! $ w-move ! (21 ∷ 0 ∷ []) $ w-fjoin ! $ w-owned ! T-Stop.the-row (Is T-Stop.the-row) (EL.makes T-Stop.the-type L-Stop.the-plain 𝓤 H A) u2 _ is2 $ w-fjoin ! $ w-move ! (23 ∷ 0 ∷ []) $ w-fjoin ! $ w-owned ! T-Order.the-row (Is T-Order.the-row) (EL.makes T-Order.the-type L-Order.the-plain 𝓤 H A) u1 _ is1 $ w-fjoin ! $ w-owned ! usize (Is usize) (uint-makes 𝓤 H A W w64) cap _ ((refl, fits-cap)) $ w-fjoin ! $ w-move ! (24 ∷ 0 ∷ []) $ w-fjoin ! $ w-move ! (25 ∷ 0 ∷ []) $ w-fjoin ! $ w-move ! (26 ∷ 0 ∷ []) $ w-fjoin ! $ w-owned ! usize (Is usize) (uint-makes 𝓤 H A W w64) n _ ((refl, fits-n)) $ w-fjoin ! $
           w-nothing ! $ w-move ! (3 ∷ 0 ∷ []) $ w-join ! $ w-move ! (4 ∷ 0 ∷ []) $ w-join ! $ w-move ! (5 ∷ 0 ∷ []) $ w-join ! $ w-move ! (6 ∷ 0 ∷ []) $ w-join ! $ w-move ! (7 ∷ 0 ∷ []) $ w-join ! $ w-move ! (8 ∷ 0 ∷ []) $ w-join ! $ w-move ! (9 ∷ 0 ∷ []) $ w-join ! $ w-move ! (10 ∷ 0 ∷ []) $ w-join ! $ w-move ! (11 ∷ 0 ∷ []) $ w-join ! $ w-move ! (12 ∷ 0 ∷ []) $ w-join ! $ w-move ! (13 ∷ 0 ∷ []) $ w-join ! $ w-move ! (43 ∷ 0 ∷ []) $ w-join ! $ w-move ! (42 ∷ 0 ∷ []) $ w-join ! $ w-move ! (41 ∷ 0 ∷ []) $ w-join ! $ w-move ! (40 ∷ 0 ∷ []) $ w-join ! $
-          use2 W (raw (C-factor 𝓤 H A mem run .pre (((κ-input-starts, (κ-input-rows, (κ-input-values, (κ-list, (ν4-8 ∷ [], (ν4-9 ∷ [], (ν4-10 ∷ [], (ν4-11 ∷ [], (ν4-12 ∷ [], (ν4-13 ∷ [], (ν4-14 ∷ [], (ν4-15 ∷ [], (ν4-16 ∷ [], (ν4-17 ∷ [], (ν4-18 ∷ [], tt))))))))))))))), (q-input-starts, (q-input-rows, (q-input-values, (q-list, (fullShare, (fullShare, (fullShare, (fullShare, (fullShare, (fullShare, (fullShare, (fullShare, (fullShare, (fullShare, (fullShare, tt))))))))))))))), tt, (n, (ref-input-starts γ-input-starts input-starts, (ref-input-rows γ-input-rows input-rows, (ref-input-values γ-input-values input-values, (cap, (u1, (ref-list γ-list «list», (u2, (ref-permutation δ4-8 permutation, (ref-firsts δ4-9 firsts, (ref-starts δ4-10 starts, (ref-groups δ4-11 groups, (ref-tasks δ4-12 tasks, (ref-top δ4-13 top, (ref-words δ4-14 words, (ref-floats δ4-15 floats, (ref-rows δ4-16 rows, (ref-updates l22 δ4-17 updates, (ref-values δ4-18 values, tt))))))))))))))))))), (vint w64 n ∷ [], (sliceVal (b-input-starts, o-input-starts) (length input-starts) ∷ [], (sliceVal (b-input-rows, o-input-rows) (length input-rows) ∷ [], (sliceVal (b-input-values, o-input-values) (length input-values) ∷ [], (vint w64 cap ∷ [], (r1 ∷ [], (sliceVal (b-list, o-list) (length «list») ∷ [], (r2 ∷ [], (sliceVal (b-permutation, o-permutation) (length permutation) ∷ [], (sliceVal (b-firsts, o-firsts) (length firsts) ∷ [], (sliceVal (b-starts, o-starts) (length starts) ∷ [], (sliceVal (b-groups, o-groups) (length groups) ∷ [], (sliceVal (b-tasks, o-tasks) (length tasks) ∷ [], (sliceVal (b-top, o-top) (length top) ∷ [], (sliceVal (b-words, o-words) (length words) ∷ [], (sliceVal (b-floats, o-floats) (length floats) ∷ [], (sliceVal (b-rows, o-rows) (length rows) ∷ [], (sliceVal (l22, 0) (length updates) ∷ [], (sliceVal (b-values, o-values) (length values) ∷ [], tt)))))))))))))))))))), tt))) (asked4 u1 r1 is1 d1 u2 r2 is2 d2 u3 r3 is3 d3 updates made-updates size-updates l22 ν4-8 δ4-8 ν4-9 δ4-9 ν4-10 δ4-10 ν4-11 δ4-11 ν4-12 δ4-12 ν4-13 δ4-13 ν4-14 δ4-14 ν4-15 δ4-15 ν4-16 δ4-16 ν4-17 δ4-17 ν4-18 δ4-18) $
-          w-calls-at ! fm (C-factor 𝓤 H A mem run) known-factor (((κ-input-starts, (κ-input-rows, (κ-input-values, (κ-list, (ν4-8 ∷ [], (ν4-9 ∷ [], (ν4-10 ∷ [], (ν4-11 ∷ [], (ν4-12 ∷ [], (ν4-13 ∷ [], (ν4-14 ∷ [], (ν4-15 ∷ [], (ν4-16 ∷ [], (ν4-17 ∷ [], (ν4-18 ∷ [], tt))))))))))))))), (q-input-starts, (q-input-rows, (q-input-values, (q-list, (fullShare, (fullShare, (fullShare, (fullShare, (fullShare, (fullShare, (fullShare, (fullShare, (fullShare, (fullShare, (fullShare, tt))))))))))))))), tt, (n, (ref-input-starts γ-input-starts input-starts, (ref-input-rows γ-input-rows input-rows, (ref-input-values γ-input-values input-values, (cap, (u1, (ref-list γ-list «list», (u2, (ref-permutation δ4-8 permutation, (ref-firsts δ4-9 firsts, (ref-starts δ4-10 starts, (ref-groups δ4-11 groups, (ref-tasks δ4-12 tasks, (ref-top δ4-13 top, (ref-words δ4-14 words, (ref-floats δ4-15 floats, (ref-rows δ4-16 rows, (ref-updates l22 δ4-17 updates, (ref-values δ4-18 values, tt))))))))))))))))))), (vint w64 n ∷ [], (sliceVal (b-input-starts, o-input-starts) (length input-starts) ∷ [], (sliceVal (b-input-rows, o-input-rows) (length input-rows) ∷ [], (sliceVal (b-input-values, o-input-values) (length input-values) ∷ [], (vint w64 cap ∷ [], (r1 ∷ [], (sliceVal (b-list, o-list) (length «list») ∷ [], (r2 ∷ [], (sliceVal (b-permutation, o-permutation) (length permutation) ∷ [], (sliceVal (b-firsts, o-firsts) (length firsts) ∷ [], (sliceVal (b-starts, o-starts) (length starts) ∷ [], (sliceVal (b-groups, o-groups) (length groups) ∷ [], (sliceVal (b-tasks, o-tasks) (length tasks) ∷ [], (sliceVal (b-top, o-top) (length top) ∷ [], (sliceVal (b-words, o-words) (length words) ∷ [], (sliceVal (b-floats, o-floats) (length floats) ∷ [], (sliceVal (b-rows, o-rows) (length rows) ∷ [], (sliceVal (l22, 0) (length updates) ∷ [], (sliceVal (b-values, o-values) (length values) ∷ [], tt)))))))))))))))))))), tt) (w-and-then ! (w-load ! (w-from ! (w-stop !)) (w-look ! 40 refl)) (w-and-then ! (w-load ! (w-from ! (w-stop !)) (w-look ! 41 refl)) (w-and-then ! (w-load ! (w-from ! (w-stop !)) (w-look ! 42 refl)) (w-and-then ! (w-load ! (w-from ! (w-stop !)) (w-look ! 43 refl)) (w-and-then ! (w-load ! (w-from ! (w-stop !)) (w-look ! 44 refl)) (w-and-then ! (w-load ! (w-from ! (w-stop !)) (w-look ! 56 refl)) (w-and-then ! (w-load ! (w-from ! (w-stop !)) (w-look ! 45 refl)) (w-and-then ! (w-load ! (w-from ! (w-stop !)) (w-look ! 57 refl)) (w-and-then ! (w-load ! (w-from ! (w-stop !)) (w-look ! 18 refl)) (w-and-then ! (w-load ! (w-from ! (w-stop !)) (w-look ! 20 refl)) (w-and-then ! (w-load ! (w-from ! (w-stop !)) (w-look ! 22 refl)) (w-and-then ! (w-load ! (w-from ! (w-stop !)) (w-look ! 24 refl)) (w-and-then ! (w-load ! (w-from ! (w-stop !)) (w-look ! 26 refl)) (w-and-then ! (w-load ! (w-from ! (w-stop !)) (w-look ! 28 refl)) (w-and-then ! (w-load ! (w-from ! (w-stop !)) (w-look ! 30 refl)) (w-and-then ! (w-load ! (w-from ! (w-stop !)) (w-look ! 32 refl)) (w-and-then ! (w-load ! (w-from ! (w-stop !)) (w-look ! 34 refl)) (w-and-then ! (w-load ! (w-from ! (w-stop !)) (w-look ! 36 refl)) (w-and-then ! (w-load ! (w-from ! (w-stop !)) (w-look ! 38 refl)) (w-no-more !)))))))))))))))))))) (λ r4.
+          use2 W (raw (C-factor 𝓤 H A mem run .pre (((κ-input-starts, (κ-input-rows, (κ-input-values, (κ-list, (ν4-8 ∷ [], (ν4-9 ∷ [], (ν4-10 ∷ [], (ν4-11 ∷ [], (ν4-12 ∷ [], (ν4-13 ∷ [], (ν4-14 ∷ [], (ν4-15 ∷ [], (ν4-16 ∷ [], (ν4-17 ∷ [], (ν4-18 ∷ [], tt))))))))))))))), (q-input-starts, (q-input-rows, (q-input-values, (q-list, (fullShare, (fullShare, (fullShare, (fullShare, (fullShare, (fullShare, (fullShare, (fullShare, (fullShare, (fullShare, (fullShare, tt))))))))))))))), tt, (n, (ref-input-starts γ-input-starts input-starts, (ref-input-rows γ-input-rows input-rows, (ref-input-values γ-input-values input-values, (cap, (u1, (ref-list γ-list «list», (u2, (ref-permutation δ4-8 permutation, (ref-firsts δ4-9 firsts, (ref-starts δ4-10 starts, (ref-groups δ4-11 groups, (ref-tasks δ4-12 tasks, (ref-top δ4-13 top, (ref-words δ4-14 words, (ref-floats δ4-15 floats, (ref-rows δ4-16 rows, (ref-updates l22 δ4-17 updates, (ref-values δ4-18 values, tt))))))))))))))))))), (vint w64 n ∷ [], (s-input-starts ∷ [], (s-input-rows ∷ [], (s-input-values ∷ [], (vint w64 cap ∷ [], (r1 ∷ [], (s-list ∷ [], (r2 ∷ [], (s-permutation ∷ [], (s-firsts ∷ [], (s-starts ∷ [], (s-groups ∷ [], (s-tasks ∷ [], (s-top ∷ [], (s-words ∷ [], (s-floats ∷ [], (s-rows ∷ [], (sliceVal (l22, 0) (length updates) ∷ [], (s-values ∷ [], tt)))))))))))))))))))), tt))) (asked4 u1 r1 is1 d1 u2 r2 is2 d2 u3 r3 is3 d3 updates made-updates size-updates l22 ν4-8 δ4-8 ν4-9 δ4-9 ν4-10 δ4-10 ν4-11 δ4-11 ν4-12 δ4-12 ν4-13 δ4-13 ν4-14 δ4-14 ν4-15 δ4-15 ν4-16 δ4-16 ν4-17 δ4-17 ν4-18 δ4-18) $
+          w-calls-at ! fm (C-factor 𝓤 H A mem run) known-factor (((κ-input-starts, (κ-input-rows, (κ-input-values, (κ-list, (ν4-8 ∷ [], (ν4-9 ∷ [], (ν4-10 ∷ [], (ν4-11 ∷ [], (ν4-12 ∷ [], (ν4-13 ∷ [], (ν4-14 ∷ [], (ν4-15 ∷ [], (ν4-16 ∷ [], (ν4-17 ∷ [], (ν4-18 ∷ [], tt))))))))))))))), (q-input-starts, (q-input-rows, (q-input-values, (q-list, (fullShare, (fullShare, (fullShare, (fullShare, (fullShare, (fullShare, (fullShare, (fullShare, (fullShare, (fullShare, (fullShare, tt))))))))))))))), tt, (n, (ref-input-starts γ-input-starts input-starts, (ref-input-rows γ-input-rows input-rows, (ref-input-values γ-input-values input-values, (cap, (u1, (ref-list γ-list «list», (u2, (ref-permutation δ4-8 permutation, (ref-firsts δ4-9 firsts, (ref-starts δ4-10 starts, (ref-groups δ4-11 groups, (ref-tasks δ4-12 tasks, (ref-top δ4-13 top, (ref-words δ4-14 words, (ref-floats δ4-15 floats, (ref-rows δ4-16 rows, (ref-updates l22 δ4-17 updates, (ref-values δ4-18 values, tt))))))))))))))))))), (vint w64 n ∷ [], (s-input-starts ∷ [], (s-input-rows ∷ [], (s-input-values ∷ [], (vint w64 cap ∷ [], (r1 ∷ [], (s-list ∷ [], (r2 ∷ [], (s-permutation ∷ [], (s-firsts ∷ [], (s-starts ∷ [], (s-groups ∷ [], (s-tasks ∷ [], (s-top ∷ [], (s-words ∷ [], (s-floats ∷ [], (s-rows ∷ [], (sliceVal (l22, 0) (length updates) ∷ [], (s-values ∷ [], tt)))))))))))))))))))), tt) (w-and-then ! (w-load ! (w-from ! (w-stop !)) (w-look ! 40 refl)) (w-and-then ! (w-load ! (w-from ! (w-stop !)) (w-look ! 41 refl)) (w-and-then ! (w-load ! (w-from ! (w-stop !)) (w-look ! 42 refl)) (w-and-then ! (w-load ! (w-from ! (w-stop !)) (w-look ! 43 refl)) (w-and-then ! (w-load ! (w-from ! (w-stop !)) (w-look ! 44 refl)) (w-and-then ! (w-load ! (w-from ! (w-stop !)) (w-look ! 56 refl)) (w-and-then ! (w-load ! (w-from ! (w-stop !)) (w-look ! 45 refl)) (w-and-then ! (w-load ! (w-from ! (w-stop !)) (w-look ! 57 refl)) (w-and-then ! (w-load ! (w-from ! (w-stop !)) (w-look ! 18 refl)) (w-and-then ! (w-load ! (w-from ! (w-stop !)) (w-look ! 20 refl)) (w-and-then ! (w-load ! (w-from ! (w-stop !)) (w-look ! 22 refl)) (w-and-then ! (w-load ! (w-from ! (w-stop !)) (w-look ! 24 refl)) (w-and-then ! (w-load ! (w-from ! (w-stop !)) (w-look ! 26 refl)) (w-and-then ! (w-load ! (w-from ! (w-stop !)) (w-look ! 28 refl)) (w-and-then ! (w-load ! (w-from ! (w-stop !)) (w-look ! 30 refl)) (w-and-then ! (w-load ! (w-from ! (w-stop !)) (w-look ! 32 refl)) (w-and-then ! (w-load ! (w-from ! (w-stop !)) (w-look ! 34 refl)) (w-and-then ! (w-load ! (w-from ! (w-stop !)) (w-look ! 36 refl)) (w-and-then ! (w-load ! (w-from ! (w-stop !)) (w-look ! 38 refl)) (w-no-more !)))))))))))))))))))) (λ r4.
           use1 W (later (some (λ (u′ : Outcome). ((‵ (flft (κ-input-starts) q-input-starts) ⊛ ‵ (flft (κ-input-rows) q-input-rows) ⊛ ‵ (flft (κ-input-values) q-input-values) ⊛ ‵ (flft (κ-list) q-list) ⊛ ‵ (flft (ν4-8 ∷ []) fullShare) ⊛ ‵ (flft (ν4-9 ∷ []) fullShare) ⊛ ‵ (flft (ν4-10 ∷ []) fullShare) ⊛ ‵ (flft (ν4-11 ∷ []) fullShare) ⊛ ‵ (flft (ν4-12 ∷ []) fullShare) ⊛ ‵ (flft (ν4-13 ∷ []) fullShare) ⊛ ‵ (flft (ν4-14 ∷ []) fullShare) ⊛ ‵ (flft (ν4-15 ∷ []) fullShare) ⊛ ‵ (flft (ν4-16 ∷ []) fullShare) ⊛ ‵ (flft (ν4-17 ∷ []) fullShare) ⊛ ‵ (flft (ν4-18 ∷ []) fullShare) ⊛ ‵ ftrue) ⊛ ‵ (T-Outcome.the-row .own u′ (r4 ∷ []))) ⊛ raw (ensured 𝓤 H A f-factor.ended (f-factor.clauses 𝓤 H A mem run) (κ-input-starts, (κ-input-rows, (κ-input-values, (κ-list, (ν4-8 ∷ [], (ν4-9 ∷ [], (ν4-10 ∷ [], (ν4-11 ∷ [], (ν4-12 ∷ [], (ν4-13 ∷ [], (ν4-14 ∷ [], (ν4-15 ∷ [], (ν4-16 ∷ [], (ν4-17 ∷ [], (ν4-18 ∷ [], tt))))))))))))))) (n, (ref-input-starts γ-input-starts input-starts, (ref-input-rows γ-input-rows input-rows, (ref-input-values γ-input-values input-values, (cap, (u1, (ref-list γ-list «list», (u2, (ref-permutation δ4-8 permutation, (ref-firsts δ4-9 firsts, (ref-starts δ4-10 starts, (ref-groups δ4-11 groups, (ref-tasks δ4-12 tasks, (ref-top δ4-13 top, (ref-words δ4-14 words, (ref-floats δ4-15 floats, (ref-rows δ4-16 rows, (ref-updates l22 δ4-17 updates, (ref-values δ4-18 values, tt))))))))))))))))))) tt u′)))) (id⊢ 𝓤 _) $ w-await ! tt $ w-pick ! (λ u4.
           w-split ! $ w-move ! (1 ∷ []) $ use1 W (some (λ (zs4 : Unit {0} × (Unit {0} × (Unit {0} × (Unit {0} × (Unit {0} × (Unit {0} × (Unit {0} × (Unit {0} × (List ℕ × (List ℕ × (List ℕ × (List ℕ × (List ℕ × (List ℕ × (List ℕ × (List Float × (List ℕ × (List Update × (List Float × Unit {0}))))))))))))))))))). ‵ (lasts f-factor.ended (κ-input-starts, (κ-input-rows, (κ-input-values, (κ-list, (ν4-8 ∷ [], (ν4-9 ∷ [], (ν4-10 ∷ [], (ν4-11 ∷ [], (ν4-12 ∷ [], (ν4-13 ∷ [], (ν4-14 ∷ [], (ν4-15 ∷ [], (ν4-16 ∷ [], (ν4-17 ∷ [], (ν4-18 ∷ [], tt))))))))))))))) (n, (ref-input-starts γ-input-starts input-starts, (ref-input-rows γ-input-rows input-rows, (ref-input-values γ-input-values input-values, (cap, (u1, (ref-list γ-list «list», (u2, (ref-permutation δ4-8 permutation, (ref-firsts δ4-9 firsts, (ref-starts δ4-10 starts, (ref-groups δ4-11 groups, (ref-tasks δ4-12 tasks, (ref-top δ4-13 top, (ref-words δ4-14 words, (ref-floats δ4-15 floats, (ref-rows δ4-16 rows, (ref-updates l22 δ4-17 updates, (ref-values δ4-18 values, tt))))))))))))))))))) zs4) ⊛ raw (fact 𝓤 (FactorSettles (factor (matrix n (input-starts) (input-rows) (input-values)) cap u1 («list») u2 (lentAll (length (permutation)) (length (firsts)) (length (starts)) (length (groups)) (length (tasks)) (length (top)) (length (words)) (length (floats)) (length (rows)) (length (updates)) (length (values)))) u4 ((zs4 .1 .1 .1 .1 .1 .1 .1 .1 .0)) ((zs4 .1 .1 .1 .1 .1 .1 .1 .1 .1 .0)) ((zs4 .1 .1 .1 .1 .1 .1 .1 .1 .1 .1 .0)) ((zs4 .1 .1 .1 .1 .1 .1 .1 .1 .1 .1 .1 .0)) ((zs4 .1 .1 .1 .1 .1 .1 .1 .1 .1 .1 .1 .1 .0)) ((zs4 .1 .1 .1 .1 .1 .1 .1 .1 .1 .1 .1 .1 .1 .0)) ((zs4 .1 .1 .1 .1 .1 .1 .1 .1 .1 .1 .1 .1 .1 .1 .0)) ((zs4 .1 .1 .1 .1 .1 .1 .1 .1 .1 .1 .1 .1 .1 .1 .1 .0)) ((zs4 .1 .1 .1 .1 .1 .1 .1 .1 .1 .1 .1 .1 .1 .1 .1 .1 .0)) ((zs4 .1 .1 .1 .1 .1 .1 .1 .1 .1 .1 .1 .1 .1 .1 .1 .1 .1 .0)) ((zs4 .1 .1 .1 .1 .1 .1 .1 .1 .1 .1 .1 .1 .1 .1 .1 .1 .1 .1 .0)))))) (id⊢ 𝓤 _) $ w-pick ! (λ zs4. w-split ! $ w-move ! (1 ∷ []) $ w-heard ! (FactorSettles (factor (matrix n (input-starts) (input-rows) (input-values)) cap u1 («list») u2 (lentAll (length (permutation)) (length (firsts)) (length (starts)) (length (groups)) (length (tasks)) (length (top)) (length (words)) (length (floats)) (length (rows)) (length (updates)) (length (values)))) u4 ((zs4 .1 .1 .1 .1 .1 .1 .1 .1 .0)) ((zs4 .1 .1 .1 .1 .1 .1 .1 .1 .1 .0)) ((zs4 .1 .1 .1 .1 .1 .1 .1 .1 .1 .1 .0)) ((zs4 .1 .1 .1 .1 .1 .1 .1 .1 .1 .1 .1 .0)) ((zs4 .1 .1 .1 .1 .1 .1 .1 .1 .1 .1 .1 .1 .0)) ((zs4 .1 .1 .1 .1 .1 .1 .1 .1 .1 .1 .1 .1 .1 .0)) ((zs4 .1 .1 .1 .1 .1 .1 .1 .1 .1 .1 .1 .1 .1 .1 .0)) ((zs4 .1 .1 .1 .1 .1 .1 .1 .1 .1 .1 .1 .1 .1 .1 .1 .0)) ((zs4 .1 .1 .1 .1 .1 .1 .1 .1 .1 .1 .1 .1 .1 .1 .1 .1 .0)) ((zs4 .1 .1 .1 .1 .1 .1 .1 .1 .1 .1 .1 .1 .1 .1 .1 .1 .1 .0)) ((zs4 .1 .1 .1 .1 .1 .1 .1 .1 .1 .1 .1 .1 .1 .1 .1 .1 .1 .1 .0))) (λ d4.
-          w-fsplit ! $ w-drop ! $ w-fsplit ! $ w-drop ! $ w-fsplit ! $ w-drop ! $ w-fsplit ! $ w-drop ! $ w-fsplit ! $ w-drop ! $ w-fsplit ! $ w-drop ! $ w-fsplit ! $ w-drop ! $ w-fsplit ! $ w-drop ! $ w-fsplit ! $ w-fsplit ! $ w-move ! (1 ∷ []) $ w-feqL ! (λ same4-permutation. w-move ! (1 ∷ []) $ w-fsplit ! $ w-fsplit ! $ w-move ! (1 ∷ []) $ w-feqL ! (λ same4-firsts. w-move ! (1 ∷ []) $ w-fsplit ! $ w-fsplit ! $ w-move ! (1 ∷ []) $ w-feqL ! (λ same4-starts. w-move ! (1 ∷ []) $ w-fsplit ! $ w-fsplit ! $ w-move ! (1 ∷ []) $ w-feqL ! (λ same4-groups. w-move ! (1 ∷ []) $ w-fsplit ! $ w-fsplit ! $ w-move ! (1 ∷ []) $ w-feqL ! (λ same4-tasks. w-move ! (1 ∷ []) $ w-fsplit ! $ w-fsplit ! $ w-move ! (1 ∷ []) $ w-feqL ! (λ same4-top. w-move ! (1 ∷ []) $ w-fsplit ! $ w-fsplit ! $ w-move ! (1 ∷ []) $ w-feqL ! (λ same4-words. w-move ! (1 ∷ []) $ w-fsplit ! $ w-fsplit ! $ w-move ! (1 ∷ []) $ w-feqL ! (λ same4-floats. w-move ! (1 ∷ []) $ w-fsplit ! $ w-fsplit ! $ w-move ! (1 ∷ []) $ w-feqL ! (λ same4-rows. w-move ! (1 ∷ []) $ w-fsplit ! $ w-fsplit ! $ w-move ! (1 ∷ []) $ w-feqL ! (λ same4-updates. w-move ! (1 ∷ []) $ w-fsplit ! $ w-fsplit ! $ w-move ! (1 ∷ []) $ w-feqL ! (λ same4-values. w-move ! (1 ∷ []) $ w-drop ! $
+          w-past ! $ w-past ! $ w-past ! $ w-past ! $ w-past ! $ w-past ! $ w-past ! $ w-past ! $ w-last ! (λ same4-permutation. w-move ! (1 ∷ []) $ w-last ! (λ same4-firsts. w-move ! (1 ∷ []) $ w-last ! (λ same4-starts. w-move ! (1 ∷ []) $ w-last ! (λ same4-groups. w-move ! (1 ∷ []) $ w-last ! (λ same4-tasks. w-move ! (1 ∷ []) $ w-last ! (λ same4-top. w-move ! (1 ∷ []) $ w-last ! (λ same4-words. w-move ! (1 ∷ []) $ w-last ! (λ same4-floats. w-move ! (1 ∷ []) $ w-last ! (λ same4-rows. w-move ! (1 ∷ []) $ w-last ! (λ same4-updates. w-move ! (1 ∷ []) $ w-last ! (λ same4-values. w-move ! (1 ∷ []) $ w-drop ! $
           w-move ! (11 ∷ []) $ w-split ! $ w-move ! (1 ∷ []) $ w-peeks ! T-Outcome.the-row (Is T-Outcome.the-row) (shows 𝓤 H A T-Outcome.the-row) u4 (r4 ∷ []) (λ is4. w-land ! (w-from ! (w-stop !)) (w-init ! 70 refl (LL.lawful T-Outcome.the-type L-Outcome.the-laws 𝓤 H A W .typed u4 _ is4 .0)) $
-          w-drop ! $ w-split ! $ w-move ! (1 ∷ []) $ w-split ! $ w-move ! (1 ∷ []) $ w-split ! $ w-move ! (1 ∷ []) $ w-split ! $ w-move ! (1 ∷ []) $ w-split ! $ w-lft-end ! tt $ w-move ! (0 ∷ 27 ∷ 16 ∷ []) $ use3 W (later (‵ (MutSlice (named 4) κ-permutation usize .own (ref-permutation γ-permutation (zs4 .1 .1 .1 .1 .1 .1 .1 .1 .0)) (sliceVal (b-permutation, o-permutation) (length permutation) ∷ [])) ⊛ ‵ (flft κ-permutation q-permutation))) (comes-back usize κ-permutation (ν4-8 ∷ []) q-permutation γ-permutation b-permutation o-permutation 𝓤 H A W (named 4) (named 4) permutation δ4-8 (zs4 .1 .1 .1 .1 .1 .1 .1 .1 .0) room-permutation same4-permutation) $ w-await ! tt $ w-split ! $
-          w-move ! (2 ∷ []) $ w-split ! $ w-lft-end ! tt $ w-move ! (0 ∷ 27 ∷ 17 ∷ []) $ use3 W (later (‵ (MutSlice (named 5) κ-firsts usize .own (ref-firsts γ-firsts (zs4 .1 .1 .1 .1 .1 .1 .1 .1 .1 .0)) (sliceVal (b-firsts, o-firsts) (length firsts) ∷ [])) ⊛ ‵ (flft κ-firsts q-firsts))) (comes-back usize κ-firsts (ν4-9 ∷ []) q-firsts γ-firsts b-firsts o-firsts 𝓤 H A W (named 5) (named 5) firsts δ4-9 (zs4 .1 .1 .1 .1 .1 .1 .1 .1 .1 .0) room-firsts same4-firsts) $ w-await ! tt $ w-split ! $
-          w-move ! (2 ∷ []) $ w-split ! $ w-lft-end ! tt $ w-move ! (0 ∷ 27 ∷ 18 ∷ []) $ use3 W (later (‵ (MutSlice (named 6) κ-starts usize .own (ref-starts γ-starts (zs4 .1 .1 .1 .1 .1 .1 .1 .1 .1 .1 .0)) (sliceVal (b-starts, o-starts) (length starts) ∷ [])) ⊛ ‵ (flft κ-starts q-starts))) (comes-back usize κ-starts (ν4-10 ∷ []) q-starts γ-starts b-starts o-starts 𝓤 H A W (named 6) (named 6) starts δ4-10 (zs4 .1 .1 .1 .1 .1 .1 .1 .1 .1 .1 .0) room-starts same4-starts) $ w-await ! tt $ w-split ! $
-          w-move ! (2 ∷ []) $ w-split ! $ w-lft-end ! tt $ w-move ! (0 ∷ 27 ∷ 19 ∷ []) $ use3 W (later (‵ (MutSlice (named 7) κ-groups usize .own (ref-groups γ-groups (zs4 .1 .1 .1 .1 .1 .1 .1 .1 .1 .1 .1 .0)) (sliceVal (b-groups, o-groups) (length groups) ∷ [])) ⊛ ‵ (flft κ-groups q-groups))) (comes-back usize κ-groups (ν4-11 ∷ []) q-groups γ-groups b-groups o-groups 𝓤 H A W (named 7) (named 7) groups δ4-11 (zs4 .1 .1 .1 .1 .1 .1 .1 .1 .1 .1 .1 .0) room-groups same4-groups) $ w-await ! tt $ w-split ! $
-          w-move ! (2 ∷ []) $ w-split ! $ w-lft-end ! tt $ w-move ! (0 ∷ 27 ∷ 20 ∷ []) $ use3 W (later (‵ (MutSlice (named 8) κ-tasks usize .own (ref-tasks γ-tasks (zs4 .1 .1 .1 .1 .1 .1 .1 .1 .1 .1 .1 .1 .0)) (sliceVal (b-tasks, o-tasks) (length tasks) ∷ [])) ⊛ ‵ (flft κ-tasks q-tasks))) (comes-back usize κ-tasks (ν4-12 ∷ []) q-tasks γ-tasks b-tasks o-tasks 𝓤 H A W (named 8) (named 8) tasks δ4-12 (zs4 .1 .1 .1 .1 .1 .1 .1 .1 .1 .1 .1 .1 .0) room-tasks same4-tasks) $ w-await ! tt $ w-split ! $
-          w-move ! (2 ∷ []) $ w-split ! $ w-lft-end ! tt $ w-move ! (0 ∷ 27 ∷ 21 ∷ []) $ use3 W (later (‵ (MutSlice (named 9) κ-top usize .own (ref-top γ-top (zs4 .1 .1 .1 .1 .1 .1 .1 .1 .1 .1 .1 .1 .1 .0)) (sliceVal (b-top, o-top) (length top) ∷ [])) ⊛ ‵ (flft κ-top q-top))) (comes-back usize κ-top (ν4-13 ∷ []) q-top γ-top b-top o-top 𝓤 H A W (named 9) (named 9) top δ4-13 (zs4 .1 .1 .1 .1 .1 .1 .1 .1 .1 .1 .1 .1 .1 .0) room-top same4-top) $ w-await ! tt $ w-split ! $
-          w-move ! (2 ∷ []) $ w-split ! $ w-lft-end ! tt $ w-move ! (0 ∷ 27 ∷ 22 ∷ []) $ use3 W (later (‵ (MutSlice (named 10) κ-words usize .own (ref-words γ-words (zs4 .1 .1 .1 .1 .1 .1 .1 .1 .1 .1 .1 .1 .1 .1 .0)) (sliceVal (b-words, o-words) (length words) ∷ [])) ⊛ ‵ (flft κ-words q-words))) (comes-back usize κ-words (ν4-14 ∷ []) q-words γ-words b-words o-words 𝓤 H A W (named 10) (named 10) words δ4-14 (zs4 .1 .1 .1 .1 .1 .1 .1 .1 .1 .1 .1 .1 .1 .1 .0) room-words same4-words) $ w-await ! tt $ w-split ! $
-          w-move ! (2 ∷ []) $ w-split ! $ w-lft-end ! tt $ w-move ! (0 ∷ 27 ∷ 23 ∷ []) $ use3 W (later (‵ (MutSlice (named 11) κ-floats f64 .own (ref-floats γ-floats (zs4 .1 .1 .1 .1 .1 .1 .1 .1 .1 .1 .1 .1 .1 .1 .1 .0)) (sliceVal (b-floats, o-floats) (length floats) ∷ [])) ⊛ ‵ (flft κ-floats q-floats))) (comes-back f64 κ-floats (ν4-15 ∷ []) q-floats γ-floats b-floats o-floats 𝓤 H A W (named 11) (named 11) floats δ4-15 (zs4 .1 .1 .1 .1 .1 .1 .1 .1 .1 .1 .1 .1 .1 .1 .1 .0) room-floats same4-floats) $ w-await ! tt $ w-split ! $
-          w-move ! (2 ∷ []) $ w-split ! $ w-lft-end ! tt $ w-move ! (0 ∷ 27 ∷ 24 ∷ []) $ use3 W (later (‵ (MutSlice (named 12) κ-rows usize .own (ref-rows γ-rows (zs4 .1 .1 .1 .1 .1 .1 .1 .1 .1 .1 .1 .1 .1 .1 .1 .1 .0)) (sliceVal (b-rows, o-rows) (length rows) ∷ [])) ⊛ ‵ (flft κ-rows q-rows))) (comes-back usize κ-rows (ν4-16 ∷ []) q-rows γ-rows b-rows o-rows 𝓤 H A W (named 12) (named 12) rows δ4-16 (zs4 .1 .1 .1 .1 .1 .1 .1 .1 .1 .1 .1 .1 .1 .1 .1 .1 .0) room-rows same4-rows) $ w-await ! tt $ w-split ! $
+          w-drop ! $ w-split ! $ w-move ! (1 ∷ []) $ w-split ! $ w-move ! (1 ∷ []) $ w-split ! $ w-move ! (1 ∷ []) $ w-split ! $ w-move ! (1 ∷ 26 ∷ 15 ∷ []) $ w-back ! tt usize κ-permutation q-permutation γ-permutation b-permutation o-permutation (named 4) (named 4) permutation (length permutation) refl ν4-8 δ4-8 (zs4 .1 .1 .1 .1 .1 .1 .1 .1 .0) room-permutation same4-permutation $
+          w-move ! (2 ∷ 26 ∷ 16 ∷ []) $ w-back ! tt usize κ-firsts q-firsts γ-firsts b-firsts o-firsts (named 5) (named 5) firsts (length firsts) refl ν4-9 δ4-9 (zs4 .1 .1 .1 .1 .1 .1 .1 .1 .1 .0) room-firsts same4-firsts $
+          w-written ! (‵ (MutSlice (named 5) κ-firsts usize .own (ref-firsts γ-firsts (zs4 .1 .1 .1 .1 .1 .1 .1 .1 .1 .0)) (sliceVal (b-firsts, o-firsts) (length firsts) ∷ [])) ∷ ‵ (flft κ-firsts q-firsts) ∷ (‵ (flft (ν4-10 ∷ []) fullShare) ⊛ ‵ (flft (ν4-11 ∷ []) fullShare) ⊛ ‵ (flft (ν4-12 ∷ []) fullShare) ⊛ ‵ (flft (ν4-13 ∷ []) fullShare) ⊛ ‵ (flft (ν4-14 ∷ []) fullShare) ⊛ ‵ (flft (ν4-15 ∷ []) fullShare) ⊛ ‵ (flft (ν4-16 ∷ []) fullShare) ⊛ ‵ (flft (ν4-17 ∷ []) fullShare) ⊛ ‵ (flft (ν4-18 ∷ []) fullShare) ⊛ ‵ ftrue) ∷ ‵ (MutSlice (named 4) κ-permutation usize .own (ref-permutation γ-permutation (zs4 .1 .1 .1 .1 .1 .1 .1 .1 .0)) (sliceVal (b-permutation, o-permutation) (length permutation) ∷ [])) ∷ ‵ (flft κ-permutation q-permutation) ∷ ‵ (flft κ-list q-list) ∷ ‵ (flft κ-input-values q-input-values) ∷ ‵ (flft κ-input-rows q-input-rows) ∷ ‵ (flft κ-input-starts q-input-starts) ∷ ‵ (finally f64 δ4-18 (zs4 .1 .1 .1 .1 .1 .1 .1 .1 .1 .1 .1 .1 .1 .1 .1 .1 .1 .1 .0)) ∷ ‵ (finally T-Update.the-row δ4-17 (zs4 .1 .1 .1 .1 .1 .1 .1 .1 .1 .1 .1 .1 .1 .1 .1 .1 .1 .0)) ∷ ‵ (finally usize δ4-16 (zs4 .1 .1 .1 .1 .1 .1 .1 .1 .1 .1 .1 .1 .1 .1 .1 .1 .0)) ∷ ‵ (finally f64 δ4-15 (zs4 .1 .1 .1 .1 .1 .1 .1 .1 .1 .1 .1 .1 .1 .1 .1 .0)) ∷ ‵ (finally usize δ4-14 (zs4 .1 .1 .1 .1 .1 .1 .1 .1 .1 .1 .1 .1 .1 .1 .0)) ∷ ‵ (finally usize δ4-13 (zs4 .1 .1 .1 .1 .1 .1 .1 .1 .1 .1 .1 .1 .1 .0)) ∷ ‵ (finally usize δ4-12 (zs4 .1 .1 .1 .1 .1 .1 .1 .1 .1 .1 .1 .1 .0)) ∷ ‵ (finally usize δ4-11 (zs4 .1 .1 .1 .1 .1 .1 .1 .1 .1 .1 .1 .0)) ∷ ‵ (finally usize δ4-10 (zs4 .1 .1 .1 .1 .1 .1 .1 .1 .1 .1 .0)) ∷ ‵ (LentAgain f64 κ-values (ν4-18 ∷ []) q-values γ-values b-values o-values δ4-18 values) ∷ ‵ (LentOwned T-Update.the-row (ν4-17 ∷ []) l22 0 δ4-17 updates) ∷ ‵ (LentAgain usize κ-rows (ν4-16 ∷ []) q-rows γ-rows b-rows o-rows δ4-16 rows) ∷ ‵ (LentAgain f64 κ-floats (ν4-15 ∷ []) q-floats γ-floats b-floats o-floats δ4-15 floats) ∷ ‵ (LentAgain usize κ-words (ν4-14 ∷ []) q-words γ-words b-words o-words δ4-14 words) ∷ ‵ (LentAgain usize κ-top (ν4-13 ∷ []) q-top γ-top b-top o-top δ4-13 top) ∷ ‵ (LentAgain usize κ-tasks (ν4-12 ∷ []) q-tasks γ-tasks b-tasks o-tasks δ4-12 tasks) ∷ ‵ (LentAgain usize κ-groups (ν4-11 ∷ []) q-groups γ-groups b-groups o-groups δ4-11 groups) ∷ ‵ (LentAgain usize κ-starts (ν4-10 ∷ []) q-starts γ-starts b-starts o-starts δ4-10 starts) ∷ ‵ (ShrSlice (named 3) κ-list usize .own (ref-list γ-list «list») (sliceVal (b-list, o-list) (length «list») ∷ [])) ∷ ‵ (ShrSlice (named 2) κ-input-values f64 .own (ref-input-values γ-input-values input-values) (sliceVal (b-input-values, o-input-values) (length input-values) ∷ [])) ∷ ‵ (ShrSlice (named 1) κ-input-rows usize .own (ref-input-rows γ-input-rows input-rows) (sliceVal (b-input-rows, o-input-rows) (length input-rows) ∷ [])) ∷ ‵ (ShrSlice (named 0) κ-input-starts usize .own (ref-input-starts γ-input-starts input-starts) (sliceVal (b-input-starts, o-input-starts) (length input-starts) ∷ [])) ∷ raw (Packed 𝓤 H A (‵ (MutSlice (named 14) κ-b f64 .own (ref-b γ-b b) (sliceVal (b-b, o-b) (length b) ∷ [])) ∷ ‵ (MutRef (named 15) κ-out (Array u8 2959) .own (ref-out γ-out out) (s-out ∷ [])) ∷ ‵ (flft κ-b q-b) ∷ ‵ (flft κ-out q-out) ∷ ‵ (fat fullShare ty17 l17 0 s-b) ∷ ‵ (fat fullShare ty18 l18 0 s-out) ∷ ‵ (fat fullShare ty21 l21 0 r3) ∷ raw (Packed 𝓤 H A spare5) ∷ raw (Packed 𝓤 H A dying) ∷ [])) ∷ ‵ (fat fullShare ty24 l24 0 (vptr b-permutation o-permutation)) ∷ ‵ (fat fullShare ty25 l25 0 s-permutation) ∷ ‵ (fat fullShare ty26 l26 0 (vptr b-firsts o-firsts)) ∷ ‵ (fat fullShare ty27 l27 0 s-firsts) ∷ ‵ (fat fullShare ty28 l28 0 (vptr b-starts o-starts)) ∷ ‵ (fat fullShare ty29 l29 0 s-starts) ∷ ‵ (fat fullShare ty30 l30 0 (vptr b-groups o-groups)) ∷ ‵ (fat fullShare ty31 l31 0 s-groups) ∷ ‵ (fat fullShare ty32 l32 0 (vptr b-tasks o-tasks)) ∷ ‵ (fat fullShare ty33 l33 0 s-tasks) ∷ ‵ (fat fullShare ty34 l34 0 (vptr b-top o-top)) ∷ ‵ (fat fullShare ty35 l35 0 s-top) ∷ ‵ (fat fullShare ty36 l36 0 (vptr b-words o-words)) ∷ ‵ (fat fullShare ty37 l37 0 s-words) ∷ ‵ (fat fullShare ty38 l38 0 (vptr b-floats o-floats)) ∷ ‵ (fat fullShare ty39 l39 0 s-floats) ∷ ‵ (fat fullShare ty40 l40 0 (vptr b-rows o-rows)) ∷ ‵ (fat fullShare ty41 l41 0 s-rows) ∷ ‵ (fat fullShare ty42 l42 0 (vptr l22 0)) ∷ ‵ (fat fullShare ty43 l43 0 (sliceVal (l22, 0) (length updates))) ∷ ‵ (fat fullShare ty44 l44 0 (vptr b-values o-values)) ∷ ‵ (fat fullShare ty45 l45 0 s-values) ∷ ‵ (froom ty0 l0 0) ∷ ‵ (fat fullShare ty1 l1 0 (vint w64 n)) ∷ ‵ (fat fullShare ty2 l2 0 s-input-starts) ∷ ‵ (fat fullShare ty3 l3 0 s-input-rows) ∷ ‵ (fat fullShare ty4 l4 0 s-input-values) ∷ ‵ (fat fullShare ty5 l5 0 (vint w64 cap)) ∷ ‵ (fat fullShare ty6 l6 0 s-list) ∷ ‵ (fat fullShare ty7 l7 0 s-permutation) ∷ ‵ (fat fullShare ty8 l8 0 s-firsts) ∷ ‵ (fat fullShare ty9 l9 0 s-starts) ∷ ‵ (fat fullShare ty10 l10 0 s-groups) ∷ ‵ (fat fullShare ty11 l11 0 s-tasks) ∷ ‵ (fat fullShare ty12 l12 0 s-top) ∷ ‵ (fat fullShare ty13 l13 0 s-words) ∷ ‵ (fat fullShare ty14 l14 0 s-floats) ∷ ‵ (fat fullShare ty15 l15 0 s-rows) ∷ ‵ (fat fullShare ty16 l16 0 s-values) ∷ ‵ (fat fullShare ty19 l19 0 r1) ∷ ‵ (fat fullShare ty20 l20 0 r2) ∷ ‵ (fat fullShare ty23 l23 0 r4) ∷ []) $
+          w-move ! (2 ∷ 26 ∷ 17 ∷ []) $ w-back ! tt usize κ-starts q-starts γ-starts b-starts o-starts (named 6) (named 6) starts (length starts) refl ν4-10 δ4-10 (zs4 .1 .1 .1 .1 .1 .1 .1 .1 .1 .1 .0) room-starts same4-starts $
+          w-move ! (2 ∷ 26 ∷ 18 ∷ []) $ w-back ! tt usize κ-groups q-groups γ-groups b-groups o-groups (named 7) (named 7) groups (length groups) refl ν4-11 δ4-11 (zs4 .1 .1 .1 .1 .1 .1 .1 .1 .1 .1 .1 .0) room-groups same4-groups $
+          w-move ! (2 ∷ 26 ∷ 19 ∷ []) $ w-back ! tt usize κ-tasks q-tasks γ-tasks b-tasks o-tasks (named 8) (named 8) tasks (length tasks) refl ν4-12 δ4-12 (zs4 .1 .1 .1 .1 .1 .1 .1 .1 .1 .1 .1 .1 .0) room-tasks same4-tasks $
+          w-written ! (‵ (MutSlice (named 8) κ-tasks usize .own (ref-tasks γ-tasks (zs4 .1 .1 .1 .1 .1 .1 .1 .1 .1 .1 .1 .1 .0)) (sliceVal (b-tasks, o-tasks) (length tasks) ∷ [])) ∷ ‵ (flft κ-tasks q-tasks) ∷ (‵ (flft (ν4-13 ∷ []) fullShare) ⊛ ‵ (flft (ν4-14 ∷ []) fullShare) ⊛ ‵ (flft (ν4-15 ∷ []) fullShare) ⊛ ‵ (flft (ν4-16 ∷ []) fullShare) ⊛ ‵ (flft (ν4-17 ∷ []) fullShare) ⊛ ‵ (flft (ν4-18 ∷ []) fullShare) ⊛ ‵ ftrue) ∷ ‵ (MutSlice (named 7) κ-groups usize .own (ref-groups γ-groups (zs4 .1 .1 .1 .1 .1 .1 .1 .1 .1 .1 .1 .0)) (sliceVal (b-groups, o-groups) (length groups) ∷ [])) ∷ ‵ (flft κ-groups q-groups) ∷ ‵ (MutSlice (named 6) κ-starts usize .own (ref-starts γ-starts (zs4 .1 .1 .1 .1 .1 .1 .1 .1 .1 .1 .0)) (sliceVal (b-starts, o-starts) (length starts) ∷ [])) ∷ ‵ (flft κ-starts q-starts) ∷ ‵ (MutSlice (named 5) κ-firsts usize .own (ref-firsts γ-firsts (zs4 .1 .1 .1 .1 .1 .1 .1 .1 .1 .0)) (sliceVal (b-firsts, o-firsts) (length firsts) ∷ [])) ∷ ‵ (flft κ-firsts q-firsts) ∷ ‵ (MutSlice (named 4) κ-permutation usize .own (ref-permutation γ-permutation (zs4 .1 .1 .1 .1 .1 .1 .1 .1 .0)) (sliceVal (b-permutation, o-permutation) (length permutation) ∷ [])) ∷ ‵ (flft κ-permutation q-permutation) ∷ ‵ (flft κ-list q-list) ∷ ‵ (flft κ-input-values q-input-values) ∷ ‵ (flft κ-input-rows q-input-rows) ∷ ‵ (flft κ-input-starts q-input-starts) ∷ ‵ (finally f64 δ4-18 (zs4 .1 .1 .1 .1 .1 .1 .1 .1 .1 .1 .1 .1 .1 .1 .1 .1 .1 .1 .0)) ∷ ‵ (finally T-Update.the-row δ4-17 (zs4 .1 .1 .1 .1 .1 .1 .1 .1 .1 .1 .1 .1 .1 .1 .1 .1 .1 .0)) ∷ ‵ (finally usize δ4-16 (zs4 .1 .1 .1 .1 .1 .1 .1 .1 .1 .1 .1 .1 .1 .1 .1 .1 .0)) ∷ ‵ (finally f64 δ4-15 (zs4 .1 .1 .1 .1 .1 .1 .1 .1 .1 .1 .1 .1 .1 .1 .1 .0)) ∷ ‵ (finally usize δ4-14 (zs4 .1 .1 .1 .1 .1 .1 .1 .1 .1 .1 .1 .1 .1 .1 .0)) ∷ ‵ (finally usize δ4-13 (zs4 .1 .1 .1 .1 .1 .1 .1 .1 .1 .1 .1 .1 .1 .0)) ∷ ‵ (LentAgain f64 κ-values (ν4-18 ∷ []) q-values γ-values b-values o-values δ4-18 values) ∷ ‵ (LentOwned T-Update.the-row (ν4-17 ∷ []) l22 0 δ4-17 updates) ∷ ‵ (LentAgain usize κ-rows (ν4-16 ∷ []) q-rows γ-rows b-rows o-rows δ4-16 rows) ∷ ‵ (LentAgain f64 κ-floats (ν4-15 ∷ []) q-floats γ-floats b-floats o-floats δ4-15 floats) ∷ ‵ (LentAgain usize κ-words (ν4-14 ∷ []) q-words γ-words b-words o-words δ4-14 words) ∷ ‵ (LentAgain usize κ-top (ν4-13 ∷ []) q-top γ-top b-top o-top δ4-13 top) ∷ ‵ (ShrSlice (named 3) κ-list usize .own (ref-list γ-list «list») (sliceVal (b-list, o-list) (length «list») ∷ [])) ∷ ‵ (ShrSlice (named 2) κ-input-values f64 .own (ref-input-values γ-input-values input-values) (sliceVal (b-input-values, o-input-values) (length input-values) ∷ [])) ∷ ‵ (ShrSlice (named 1) κ-input-rows usize .own (ref-input-rows γ-input-rows input-rows) (sliceVal (b-input-rows, o-input-rows) (length input-rows) ∷ [])) ∷ ‵ (ShrSlice (named 0) κ-input-starts usize .own (ref-input-starts γ-input-starts input-starts) (sliceVal (b-input-starts, o-input-starts) (length input-starts) ∷ [])) ∷ raw (Packed 𝓤 H A (‵ (MutSlice (named 14) κ-b f64 .own (ref-b γ-b b) (sliceVal (b-b, o-b) (length b) ∷ [])) ∷ ‵ (MutRef (named 15) κ-out (Array u8 2959) .own (ref-out γ-out out) (s-out ∷ [])) ∷ ‵ (flft κ-b q-b) ∷ ‵ (flft κ-out q-out) ∷ ‵ (fat fullShare ty17 l17 0 s-b) ∷ ‵ (fat fullShare ty18 l18 0 s-out) ∷ ‵ (fat fullShare ty21 l21 0 r3) ∷ raw (Packed 𝓤 H A spare5) ∷ raw (Packed 𝓤 H A dying) ∷ [])) ∷ ‵ (fat fullShare ty24 l24 0 (vptr b-permutation o-permutation)) ∷ ‵ (fat fullShare ty25 l25 0 s-permutation) ∷ ‵ (fat fullShare ty26 l26 0 (vptr b-firsts o-firsts)) ∷ ‵ (fat fullShare ty27 l27 0 s-firsts) ∷ ‵ (fat fullShare ty28 l28 0 (vptr b-starts o-starts)) ∷ ‵ (fat fullShare ty29 l29 0 s-starts) ∷ ‵ (fat fullShare ty30 l30 0 (vptr b-groups o-groups)) ∷ ‵ (fat fullShare ty31 l31 0 s-groups) ∷ ‵ (fat fullShare ty32 l32 0 (vptr b-tasks o-tasks)) ∷ ‵ (fat fullShare ty33 l33 0 s-tasks) ∷ ‵ (fat fullShare ty34 l34 0 (vptr b-top o-top)) ∷ ‵ (fat fullShare ty35 l35 0 s-top) ∷ ‵ (fat fullShare ty36 l36 0 (vptr b-words o-words)) ∷ ‵ (fat fullShare ty37 l37 0 s-words) ∷ ‵ (fat fullShare ty38 l38 0 (vptr b-floats o-floats)) ∷ ‵ (fat fullShare ty39 l39 0 s-floats) ∷ ‵ (fat fullShare ty40 l40 0 (vptr b-rows o-rows)) ∷ ‵ (fat fullShare ty41 l41 0 s-rows) ∷ ‵ (fat fullShare ty42 l42 0 (vptr l22 0)) ∷ ‵ (fat fullShare ty43 l43 0 (sliceVal (l22, 0) (length updates))) ∷ ‵ (fat fullShare ty44 l44 0 (vptr b-values o-values)) ∷ ‵ (fat fullShare ty45 l45 0 s-values) ∷ ‵ (froom ty0 l0 0) ∷ ‵ (fat fullShare ty1 l1 0 (vint w64 n)) ∷ ‵ (fat fullShare ty2 l2 0 s-input-starts) ∷ ‵ (fat fullShare ty3 l3 0 s-input-rows) ∷ ‵ (fat fullShare ty4 l4 0 s-input-values) ∷ ‵ (fat fullShare ty5 l5 0 (vint w64 cap)) ∷ ‵ (fat fullShare ty6 l6 0 s-list) ∷ ‵ (fat fullShare ty7 l7 0 s-permutation) ∷ ‵ (fat fullShare ty8 l8 0 s-firsts) ∷ ‵ (fat fullShare ty9 l9 0 s-starts) ∷ ‵ (fat fullShare ty10 l10 0 s-groups) ∷ ‵ (fat fullShare ty11 l11 0 s-tasks) ∷ ‵ (fat fullShare ty12 l12 0 s-top) ∷ ‵ (fat fullShare ty13 l13 0 s-words) ∷ ‵ (fat fullShare ty14 l14 0 s-floats) ∷ ‵ (fat fullShare ty15 l15 0 s-rows) ∷ ‵ (fat fullShare ty16 l16 0 s-values) ∷ ‵ (fat fullShare ty19 l19 0 r1) ∷ ‵ (fat fullShare ty20 l20 0 r2) ∷ ‵ (fat fullShare ty23 l23 0 r4) ∷ []) $
+          w-move ! (2 ∷ 26 ∷ 20 ∷ []) $ w-back ! tt usize κ-top q-top γ-top b-top o-top (named 9) (named 9) top (length top) refl ν4-13 δ4-13 (zs4 .1 .1 .1 .1 .1 .1 .1 .1 .1 .1 .1 .1 .1 .0) room-top same4-top $
+          w-move ! (2 ∷ 26 ∷ 21 ∷ []) $ w-back ! tt usize κ-words q-words γ-words b-words o-words (named 10) (named 10) words (length words) refl ν4-14 δ4-14 (zs4 .1 .1 .1 .1 .1 .1 .1 .1 .1 .1 .1 .1 .1 .1 .0) room-words same4-words $
+          w-move ! (2 ∷ 26 ∷ 22 ∷ []) $ w-back ! tt f64 κ-floats q-floats γ-floats b-floats o-floats (named 11) (named 11) floats (length floats) refl ν4-15 δ4-15 (zs4 .1 .1 .1 .1 .1 .1 .1 .1 .1 .1 .1 .1 .1 .1 .1 .0) room-floats same4-floats $
+          w-written ! (‵ (MutSlice (named 11) κ-floats f64 .own (ref-floats γ-floats (zs4 .1 .1 .1 .1 .1 .1 .1 .1 .1 .1 .1 .1 .1 .1 .1 .0)) (sliceVal (b-floats, o-floats) (length floats) ∷ [])) ∷ ‵ (flft κ-floats q-floats) ∷ (‵ (flft (ν4-16 ∷ []) fullShare) ⊛ ‵ (flft (ν4-17 ∷ []) fullShare) ⊛ ‵ (flft (ν4-18 ∷ []) fullShare) ⊛ ‵ ftrue) ∷ ‵ (MutSlice (named 10) κ-words usize .own (ref-words γ-words (zs4 .1 .1 .1 .1 .1 .1 .1 .1 .1 .1 .1 .1 .1 .1 .0)) (sliceVal (b-words, o-words) (length words) ∷ [])) ∷ ‵ (flft κ-words q-words) ∷ ‵ (MutSlice (named 9) κ-top usize .own (ref-top γ-top (zs4 .1 .1 .1 .1 .1 .1 .1 .1 .1 .1 .1 .1 .1 .0)) (sliceVal (b-top, o-top) (length top) ∷ [])) ∷ ‵ (flft κ-top q-top) ∷ ‵ (MutSlice (named 8) κ-tasks usize .own (ref-tasks γ-tasks (zs4 .1 .1 .1 .1 .1 .1 .1 .1 .1 .1 .1 .1 .0)) (sliceVal (b-tasks, o-tasks) (length tasks) ∷ [])) ∷ ‵ (flft κ-tasks q-tasks) ∷ ‵ (MutSlice (named 7) κ-groups usize .own (ref-groups γ-groups (zs4 .1 .1 .1 .1 .1 .1 .1 .1 .1 .1 .1 .0)) (sliceVal (b-groups, o-groups) (length groups) ∷ [])) ∷ ‵ (flft κ-groups q-groups) ∷ ‵ (MutSlice (named 6) κ-starts usize .own (ref-starts γ-starts (zs4 .1 .1 .1 .1 .1 .1 .1 .1 .1 .1 .0)) (sliceVal (b-starts, o-starts) (length starts) ∷ [])) ∷ ‵ (flft κ-starts q-starts) ∷ ‵ (MutSlice (named 5) κ-firsts usize .own (ref-firsts γ-firsts (zs4 .1 .1 .1 .1 .1 .1 .1 .1 .1 .0)) (sliceVal (b-firsts, o-firsts) (length firsts) ∷ [])) ∷ ‵ (flft κ-firsts q-firsts) ∷ ‵ (MutSlice (named 4) κ-permutation usize .own (ref-permutation γ-permutation (zs4 .1 .1 .1 .1 .1 .1 .1 .1 .0)) (sliceVal (b-permutation, o-permutation) (length permutation) ∷ [])) ∷ ‵ (flft κ-permutation q-permutation) ∷ ‵ (flft κ-list q-list) ∷ ‵ (flft κ-input-values q-input-values) ∷ ‵ (flft κ-input-rows q-input-rows) ∷ ‵ (flft κ-input-starts q-input-starts) ∷ ‵ (finally f64 δ4-18 (zs4 .1 .1 .1 .1 .1 .1 .1 .1 .1 .1 .1 .1 .1 .1 .1 .1 .1 .1 .0)) ∷ ‵ (finally T-Update.the-row δ4-17 (zs4 .1 .1 .1 .1 .1 .1 .1 .1 .1 .1 .1 .1 .1 .1 .1 .1 .1 .0)) ∷ ‵ (finally usize δ4-16 (zs4 .1 .1 .1 .1 .1 .1 .1 .1 .1 .1 .1 .1 .1 .1 .1 .1 .0)) ∷ ‵ (LentAgain f64 κ-values (ν4-18 ∷ []) q-values γ-values b-values o-values δ4-18 values) ∷ ‵ (LentOwned T-Update.the-row (ν4-17 ∷ []) l22 0 δ4-17 updates) ∷ ‵ (LentAgain usize κ-rows (ν4-16 ∷ []) q-rows γ-rows b-rows o-rows δ4-16 rows) ∷ ‵ (ShrSlice (named 3) κ-list usize .own (ref-list γ-list «list») (sliceVal (b-list, o-list) (length «list») ∷ [])) ∷ ‵ (ShrSlice (named 2) κ-input-values f64 .own (ref-input-values γ-input-values input-values) (sliceVal (b-input-values, o-input-values) (length input-values) ∷ [])) ∷ ‵ (ShrSlice (named 1) κ-input-rows usize .own (ref-input-rows γ-input-rows input-rows) (sliceVal (b-input-rows, o-input-rows) (length input-rows) ∷ [])) ∷ ‵ (ShrSlice (named 0) κ-input-starts usize .own (ref-input-starts γ-input-starts input-starts) (sliceVal (b-input-starts, o-input-starts) (length input-starts) ∷ [])) ∷ raw (Packed 𝓤 H A (‵ (MutSlice (named 14) κ-b f64 .own (ref-b γ-b b) (sliceVal (b-b, o-b) (length b) ∷ [])) ∷ ‵ (MutRef (named 15) κ-out (Array u8 2959) .own (ref-out γ-out out) (s-out ∷ [])) ∷ ‵ (flft κ-b q-b) ∷ ‵ (flft κ-out q-out) ∷ ‵ (fat fullShare ty17 l17 0 s-b) ∷ ‵ (fat fullShare ty18 l18 0 s-out) ∷ ‵ (fat fullShare ty21 l21 0 r3) ∷ raw (Packed 𝓤 H A spare5) ∷ raw (Packed 𝓤 H A dying) ∷ [])) ∷ ‵ (fat fullShare ty24 l24 0 (vptr b-permutation o-permutation)) ∷ ‵ (fat fullShare ty25 l25 0 s-permutation) ∷ ‵ (fat fullShare ty26 l26 0 (vptr b-firsts o-firsts)) ∷ ‵ (fat fullShare ty27 l27 0 s-firsts) ∷ ‵ (fat fullShare ty28 l28 0 (vptr b-starts o-starts)) ∷ ‵ (fat fullShare ty29 l29 0 s-starts) ∷ ‵ (fat fullShare ty30 l30 0 (vptr b-groups o-groups)) ∷ ‵ (fat fullShare ty31 l31 0 s-groups) ∷ ‵ (fat fullShare ty32 l32 0 (vptr b-tasks o-tasks)) ∷ ‵ (fat fullShare ty33 l33 0 s-tasks) ∷ ‵ (fat fullShare ty34 l34 0 (vptr b-top o-top)) ∷ ‵ (fat fullShare ty35 l35 0 s-top) ∷ ‵ (fat fullShare ty36 l36 0 (vptr b-words o-words)) ∷ ‵ (fat fullShare ty37 l37 0 s-words) ∷ ‵ (fat fullShare ty38 l38 0 (vptr b-floats o-floats)) ∷ ‵ (fat fullShare ty39 l39 0 s-floats) ∷ ‵ (fat fullShare ty40 l40 0 (vptr b-rows o-rows)) ∷ ‵ (fat fullShare ty41 l41 0 s-rows) ∷ ‵ (fat fullShare ty42 l42 0 (vptr l22 0)) ∷ ‵ (fat fullShare ty43 l43 0 (sliceVal (l22, 0) (length updates))) ∷ ‵ (fat fullShare ty44 l44 0 (vptr b-values o-values)) ∷ ‵ (fat fullShare ty45 l45 0 s-values) ∷ ‵ (froom ty0 l0 0) ∷ ‵ (fat fullShare ty1 l1 0 (vint w64 n)) ∷ ‵ (fat fullShare ty2 l2 0 s-input-starts) ∷ ‵ (fat fullShare ty3 l3 0 s-input-rows) ∷ ‵ (fat fullShare ty4 l4 0 s-input-values) ∷ ‵ (fat fullShare ty5 l5 0 (vint w64 cap)) ∷ ‵ (fat fullShare ty6 l6 0 s-list) ∷ ‵ (fat fullShare ty7 l7 0 s-permutation) ∷ ‵ (fat fullShare ty8 l8 0 s-firsts) ∷ ‵ (fat fullShare ty9 l9 0 s-starts) ∷ ‵ (fat fullShare ty10 l10 0 s-groups) ∷ ‵ (fat fullShare ty11 l11 0 s-tasks) ∷ ‵ (fat fullShare ty12 l12 0 s-top) ∷ ‵ (fat fullShare ty13 l13 0 s-words) ∷ ‵ (fat fullShare ty14 l14 0 s-floats) ∷ ‵ (fat fullShare ty15 l15 0 s-rows) ∷ ‵ (fat fullShare ty16 l16 0 s-values) ∷ ‵ (fat fullShare ty19 l19 0 r1) ∷ ‵ (fat fullShare ty20 l20 0 r2) ∷ ‵ (fat fullShare ty23 l23 0 r4) ∷ []) $
+          w-move ! (2 ∷ 26 ∷ 23 ∷ []) $ w-back ! tt usize κ-rows q-rows γ-rows b-rows o-rows (named 12) (named 12) rows (length rows) refl ν4-16 δ4-16 (zs4 .1 .1 .1 .1 .1 .1 .1 .1 .1 .1 .1 .1 .1 .1 .1 .1 .0) room-rows same4-rows $
           w-move ! (2 ∷ []) $ w-split ! $ w-lft-end ! tt $ w-move ! (0 ∷ 27 ∷ 25 ∷ []) $ use3 W (later (‵ (Lies T-Update.the-row 8256 l22 0 ((zs4 .1 .1 .1 .1 .1 .1 .1 .1 .1 .1 .1 .1 .1 .1 .1 .1 .1 .0))))) (owned-back 𝓤 H A W T-Update.the-row tt 8256 l22 0 (ν4-17 ∷ []) (named 13) updates room-updates size-updates δ4-17 (zs4 .1 .1 .1 .1 .1 .1 .1 .1 .1 .1 .1 .1 .1 .1 .1 .1 .1 .0) same4-updates) $ w-await ! tt $
-          w-move ! (1 ∷ []) $ w-split ! $ w-lft-end ! tt $ w-move ! (0 ∷ 26 ∷ 25 ∷ []) $ use3 W (later (‵ (MutSlice (named 13) κ-values f64 .own (ref-values γ-values (zs4 .1 .1 .1 .1 .1 .1 .1 .1 .1 .1 .1 .1 .1 .1 .1 .1 .1 .1 .0)) (sliceVal (b-values, o-values) (length values) ∷ [])) ⊛ ‵ (flft κ-values q-values))) (comes-back f64 κ-values (ν4-18 ∷ []) q-values γ-values b-values o-values 𝓤 H A W (named 13) (named 14) values δ4-18 (zs4 .1 .1 .1 .1 .1 .1 .1 .1 .1 .1 .1 .1 .1 .1 .1 .1 .1 .1 .0) room-values same4-values) $ w-await ! tt $ w-split ! $
+          w-move ! (1 ∷ 25 ∷ 24 ∷ []) $ w-back ! tt f64 κ-values q-values γ-values b-values o-values (named 13) (named 14) values (length values) refl ν4-18 δ4-18 (zs4 .1 .1 .1 .1 .1 .1 .1 .1 .1 .1 .1 .1 .1 .1 .1 .1 .1 .1 .0) room-values same4-values $
+          w-written ! (‵ (MutSlice (named 13) κ-values f64 .own (ref-values γ-values (zs4 .1 .1 .1 .1 .1 .1 .1 .1 .1 .1 .1 .1 .1 .1 .1 .1 .1 .1 .0)) (sliceVal (b-values, o-values) (length values) ∷ [])) ∷ ‵ (flft κ-values q-values) ∷ (‵ ftrue) ∷ ‵ (Lies T-Update.the-row 8256 l22 0 ((zs4 .1 .1 .1 .1 .1 .1 .1 .1 .1 .1 .1 .1 .1 .1 .1 .1 .1 .0))) ∷ ‵ (MutSlice (named 12) κ-rows usize .own (ref-rows γ-rows (zs4 .1 .1 .1 .1 .1 .1 .1 .1 .1 .1 .1 .1 .1 .1 .1 .1 .0)) (sliceVal (b-rows, o-rows) (length rows) ∷ [])) ∷ ‵ (flft κ-rows q-rows) ∷ ‵ (MutSlice (named 11) κ-floats f64 .own (ref-floats γ-floats (zs4 .1 .1 .1 .1 .1 .1 .1 .1 .1 .1 .1 .1 .1 .1 .1 .0)) (sliceVal (b-floats, o-floats) (length floats) ∷ [])) ∷ ‵ (flft κ-floats q-floats) ∷ ‵ (MutSlice (named 10) κ-words usize .own (ref-words γ-words (zs4 .1 .1 .1 .1 .1 .1 .1 .1 .1 .1 .1 .1 .1 .1 .0)) (sliceVal (b-words, o-words) (length words) ∷ [])) ∷ ‵ (flft κ-words q-words) ∷ ‵ (MutSlice (named 9) κ-top usize .own (ref-top γ-top (zs4 .1 .1 .1 .1 .1 .1 .1 .1 .1 .1 .1 .1 .1 .0)) (sliceVal (b-top, o-top) (length top) ∷ [])) ∷ ‵ (flft κ-top q-top) ∷ ‵ (MutSlice (named 8) κ-tasks usize .own (ref-tasks γ-tasks (zs4 .1 .1 .1 .1 .1 .1 .1 .1 .1 .1 .1 .1 .0)) (sliceVal (b-tasks, o-tasks) (length tasks) ∷ [])) ∷ ‵ (flft κ-tasks q-tasks) ∷ ‵ (MutSlice (named 7) κ-groups usize .own (ref-groups γ-groups (zs4 .1 .1 .1 .1 .1 .1 .1 .1 .1 .1 .1 .0)) (sliceVal (b-groups, o-groups) (length groups) ∷ [])) ∷ ‵ (flft κ-groups q-groups) ∷ ‵ (MutSlice (named 6) κ-starts usize .own (ref-starts γ-starts (zs4 .1 .1 .1 .1 .1 .1 .1 .1 .1 .1 .0)) (sliceVal (b-starts, o-starts) (length starts) ∷ [])) ∷ ‵ (flft κ-starts q-starts) ∷ ‵ (MutSlice (named 5) κ-firsts usize .own (ref-firsts γ-firsts (zs4 .1 .1 .1 .1 .1 .1 .1 .1 .1 .0)) (sliceVal (b-firsts, o-firsts) (length firsts) ∷ [])) ∷ ‵ (flft κ-firsts q-firsts) ∷ ‵ (MutSlice (named 4) κ-permutation usize .own (ref-permutation γ-permutation (zs4 .1 .1 .1 .1 .1 .1 .1 .1 .0)) (sliceVal (b-permutation, o-permutation) (length permutation) ∷ [])) ∷ ‵ (flft κ-permutation q-permutation) ∷ ‵ (flft κ-list q-list) ∷ ‵ (flft κ-input-values q-input-values) ∷ ‵ (flft κ-input-rows q-input-rows) ∷ ‵ (flft κ-input-starts q-input-starts) ∷ ‵ (ShrSlice (named 3) κ-list usize .own (ref-list γ-list «list») (sliceVal (b-list, o-list) (length «list») ∷ [])) ∷ ‵ (ShrSlice (named 2) κ-input-values f64 .own (ref-input-values γ-input-values input-values) (sliceVal (b-input-values, o-input-values) (length input-values) ∷ [])) ∷ ‵ (ShrSlice (named 1) κ-input-rows usize .own (ref-input-rows γ-input-rows input-rows) (sliceVal (b-input-rows, o-input-rows) (length input-rows) ∷ [])) ∷ ‵ (ShrSlice (named 0) κ-input-starts usize .own (ref-input-starts γ-input-starts input-starts) (sliceVal (b-input-starts, o-input-starts) (length input-starts) ∷ [])) ∷ raw (Packed 𝓤 H A (‵ (MutSlice (named 14) κ-b f64 .own (ref-b γ-b b) (sliceVal (b-b, o-b) (length b) ∷ [])) ∷ ‵ (MutRef (named 15) κ-out (Array u8 2959) .own (ref-out γ-out out) (s-out ∷ [])) ∷ ‵ (flft κ-b q-b) ∷ ‵ (flft κ-out q-out) ∷ ‵ (fat fullShare ty17 l17 0 s-b) ∷ ‵ (fat fullShare ty18 l18 0 s-out) ∷ ‵ (fat fullShare ty21 l21 0 r3) ∷ raw (Packed 𝓤 H A spare5) ∷ raw (Packed 𝓤 H A dying) ∷ [])) ∷ ‵ (fat fullShare ty24 l24 0 (vptr b-permutation o-permutation)) ∷ ‵ (fat fullShare ty25 l25 0 s-permutation) ∷ ‵ (fat fullShare ty26 l26 0 (vptr b-firsts o-firsts)) ∷ ‵ (fat fullShare ty27 l27 0 s-firsts) ∷ ‵ (fat fullShare ty28 l28 0 (vptr b-starts o-starts)) ∷ ‵ (fat fullShare ty29 l29 0 s-starts) ∷ ‵ (fat fullShare ty30 l30 0 (vptr b-groups o-groups)) ∷ ‵ (fat fullShare ty31 l31 0 s-groups) ∷ ‵ (fat fullShare ty32 l32 0 (vptr b-tasks o-tasks)) ∷ ‵ (fat fullShare ty33 l33 0 s-tasks) ∷ ‵ (fat fullShare ty34 l34 0 (vptr b-top o-top)) ∷ ‵ (fat fullShare ty35 l35 0 s-top) ∷ ‵ (fat fullShare ty36 l36 0 (vptr b-words o-words)) ∷ ‵ (fat fullShare ty37 l37 0 s-words) ∷ ‵ (fat fullShare ty38 l38 0 (vptr b-floats o-floats)) ∷ ‵ (fat fullShare ty39 l39 0 s-floats) ∷ ‵ (fat fullShare ty40 l40 0 (vptr b-rows o-rows)) ∷ ‵ (fat fullShare ty41 l41 0 s-rows) ∷ ‵ (fat fullShare ty42 l42 0 (vptr l22 0)) ∷ ‵ (fat fullShare ty43 l43 0 (sliceVal (l22, 0) (length updates))) ∷ ‵ (fat fullShare ty44 l44 0 (vptr b-values o-values)) ∷ ‵ (fat fullShare ty45 l45 0 s-values) ∷ ‵ (froom ty0 l0 0) ∷ ‵ (fat fullShare ty1 l1 0 (vint w64 n)) ∷ ‵ (fat fullShare ty2 l2 0 s-input-starts) ∷ ‵ (fat fullShare ty3 l3 0 s-input-rows) ∷ ‵ (fat fullShare ty4 l4 0 s-input-values) ∷ ‵ (fat fullShare ty5 l5 0 (vint w64 cap)) ∷ ‵ (fat fullShare ty6 l6 0 s-list) ∷ ‵ (fat fullShare ty7 l7 0 s-permutation) ∷ ‵ (fat fullShare ty8 l8 0 s-firsts) ∷ ‵ (fat fullShare ty9 l9 0 s-starts) ∷ ‵ (fat fullShare ty10 l10 0 s-groups) ∷ ‵ (fat fullShare ty11 l11 0 s-tasks) ∷ ‵ (fat fullShare ty12 l12 0 s-top) ∷ ‵ (fat fullShare ty13 l13 0 s-words) ∷ ‵ (fat fullShare ty14 l14 0 s-floats) ∷ ‵ (fat fullShare ty15 l15 0 s-rows) ∷ ‵ (fat fullShare ty16 l16 0 s-values) ∷ ‵ (fat fullShare ty19 l19 0 r1) ∷ ‵ (fat fullShare ty20 l20 0 r2) ∷ ‵ (fat fullShare ty23 l23 0 r4) ∷ []) $
           w-move ! (2 ∷ []) $ w-drop ! $
           w-forget ! 30 refl $ w-forget ! 31 refl $ w-forget ! 32 refl $ w-forget ! 33 refl $ w-forget ! 34 refl $ w-forget ! 35 refl $ w-forget ! 36 refl $ w-forget ! 37 refl $ w-forget ! 38 refl $ w-forget ! 39 refl $ w-forget ! 40 refl $ w-forget ! 41 refl $ w-forget ! 42 refl $ w-forget ! 43 refl $ w-forget ! 44 refl $ w-forget ! 45 refl $ w-forget ! 46 refl $ w-forget ! 47 refl $ w-forget ! 48 refl $ w-forget ! 49 refl $ w-forget ! 50 refl $ w-forget ! 51 refl $ w-move ! (30 ∷ 31 ∷ 32 ∷ 33 ∷ 34 ∷ 35 ∷ 36 ∷ 37 ∷ 38 ∷ 39 ∷ 40 ∷ 41 ∷ 42 ∷ 43 ∷ 44 ∷ 45 ∷ 46 ∷ 47 ∷ 48 ∷ 49 ∷ 50 ∷ 51 ∷ []) $ w-pack ! (‵ (froom ty24 l24 0) ∷ ‵ (froom ty25 l25 0) ∷ ‵ (froom ty26 l26 0) ∷ ‵ (froom ty27 l27 0) ∷ ‵ (froom ty28 l28 0) ∷ ‵ (froom ty29 l29 0) ∷ ‵ (froom ty30 l30 0) ∷ ‵ (froom ty31 l31 0) ∷ ‵ (froom ty32 l32 0) ∷ ‵ (froom ty33 l33 0) ∷ ‵ (froom ty34 l34 0) ∷ ‵ (froom ty35 l35 0) ∷ ‵ (froom ty36 l36 0) ∷ ‵ (froom ty37 l37 0) ∷ ‵ (froom ty38 l38 0) ∷ ‵ (froom ty39 l39 0) ∷ ‵ (froom ty40 l40 0) ∷ ‵ (froom ty41 l41 0) ∷ ‵ (froom ty42 l42 0) ∷ ‵ (froom ty43 l43 0) ∷ ‵ (froom ty44 l44 0) ∷ ‵ (froom ty45 l45 0) ∷ []) $
+          w-written ! (raw (Packed 𝓤 H A spare4) ∷ ‵ (MutSlice (named 13) κ-values f64 .own (ref-values γ-values (zs4 .1 .1 .1 .1 .1 .1 .1 .1 .1 .1 .1 .1 .1 .1 .1 .1 .1 .1 .0)) (sliceVal (b-values, o-values) (length values) ∷ [])) ∷ ‵ (flft κ-values q-values) ∷ ‵ (Lies T-Update.the-row 8256 l22 0 ((zs4 .1 .1 .1 .1 .1 .1 .1 .1 .1 .1 .1 .1 .1 .1 .1 .1 .1 .0))) ∷ ‵ (MutSlice (named 12) κ-rows usize .own (ref-rows γ-rows (zs4 .1 .1 .1 .1 .1 .1 .1 .1 .1 .1 .1 .1 .1 .1 .1 .1 .0)) (sliceVal (b-rows, o-rows) (length rows) ∷ [])) ∷ ‵ (flft κ-rows q-rows) ∷ ‵ (MutSlice (named 11) κ-floats f64 .own (ref-floats γ-floats (zs4 .1 .1 .1 .1 .1 .1 .1 .1 .1 .1 .1 .1 .1 .1 .1 .0)) (sliceVal (b-floats, o-floats) (length floats) ∷ [])) ∷ ‵ (flft κ-floats q-floats) ∷ ‵ (MutSlice (named 10) κ-words usize .own (ref-words γ-words (zs4 .1 .1 .1 .1 .1 .1 .1 .1 .1 .1 .1 .1 .1 .1 .0)) (sliceVal (b-words, o-words) (length words) ∷ [])) ∷ ‵ (flft κ-words q-words) ∷ ‵ (MutSlice (named 9) κ-top usize .own (ref-top γ-top (zs4 .1 .1 .1 .1 .1 .1 .1 .1 .1 .1 .1 .1 .1 .0)) (sliceVal (b-top, o-top) (length top) ∷ [])) ∷ ‵ (flft κ-top q-top) ∷ ‵ (MutSlice (named 8) κ-tasks usize .own (ref-tasks γ-tasks (zs4 .1 .1 .1 .1 .1 .1 .1 .1 .1 .1 .1 .1 .0)) (sliceVal (b-tasks, o-tasks) (length tasks) ∷ [])) ∷ ‵ (flft κ-tasks q-tasks) ∷ ‵ (MutSlice (named 7) κ-groups usize .own (ref-groups γ-groups (zs4 .1 .1 .1 .1 .1 .1 .1 .1 .1 .1 .1 .0)) (sliceVal (b-groups, o-groups) (length groups) ∷ [])) ∷ ‵ (flft κ-groups q-groups) ∷ ‵ (MutSlice (named 6) κ-starts usize .own (ref-starts γ-starts (zs4 .1 .1 .1 .1 .1 .1 .1 .1 .1 .1 .0)) (sliceVal (b-starts, o-starts) (length starts) ∷ [])) ∷ ‵ (flft κ-starts q-starts) ∷ ‵ (MutSlice (named 5) κ-firsts usize .own (ref-firsts γ-firsts (zs4 .1 .1 .1 .1 .1 .1 .1 .1 .1 .0)) (sliceVal (b-firsts, o-firsts) (length firsts) ∷ [])) ∷ ‵ (flft κ-firsts q-firsts) ∷ ‵ (MutSlice (named 4) κ-permutation usize .own (ref-permutation γ-permutation (zs4 .1 .1 .1 .1 .1 .1 .1 .1 .0)) (sliceVal (b-permutation, o-permutation) (length permutation) ∷ [])) ∷ ‵ (flft κ-permutation q-permutation) ∷ ‵ (flft κ-list q-list) ∷ ‵ (flft κ-input-values q-input-values) ∷ ‵ (flft κ-input-rows q-input-rows) ∷ ‵ (flft κ-input-starts q-input-starts) ∷ ‵ (ShrSlice (named 3) κ-list usize .own (ref-list γ-list «list») (sliceVal (b-list, o-list) (length «list») ∷ [])) ∷ ‵ (ShrSlice (named 2) κ-input-values f64 .own (ref-input-values γ-input-values input-values) (sliceVal (b-input-values, o-input-values) (length input-values) ∷ [])) ∷ ‵ (ShrSlice (named 1) κ-input-rows usize .own (ref-input-rows γ-input-rows input-rows) (sliceVal (b-input-rows, o-input-rows) (length input-rows) ∷ [])) ∷ ‵ (ShrSlice (named 0) κ-input-starts usize .own (ref-input-starts γ-input-starts input-starts) (sliceVal (b-input-starts, o-input-starts) (length input-starts) ∷ [])) ∷ raw (Packed 𝓤 H A (‵ (MutSlice (named 14) κ-b f64 .own (ref-b γ-b b) (sliceVal (b-b, o-b) (length b) ∷ [])) ∷ ‵ (MutRef (named 15) κ-out (Array u8 2959) .own (ref-out γ-out out) (s-out ∷ [])) ∷ ‵ (flft κ-b q-b) ∷ ‵ (flft κ-out q-out) ∷ ‵ (fat fullShare ty17 l17 0 s-b) ∷ ‵ (fat fullShare ty18 l18 0 s-out) ∷ ‵ (fat fullShare ty21 l21 0 r3) ∷ raw (Packed 𝓤 H A spare5) ∷ raw (Packed 𝓤 H A dying) ∷ [])) ∷ ‵ (froom ty0 l0 0) ∷ ‵ (fat fullShare ty1 l1 0 (vint w64 n)) ∷ ‵ (fat fullShare ty2 l2 0 s-input-starts) ∷ ‵ (fat fullShare ty3 l3 0 s-input-rows) ∷ ‵ (fat fullShare ty4 l4 0 s-input-values) ∷ ‵ (fat fullShare ty5 l5 0 (vint w64 cap)) ∷ ‵ (fat fullShare ty6 l6 0 s-list) ∷ ‵ (fat fullShare ty7 l7 0 s-permutation) ∷ ‵ (fat fullShare ty8 l8 0 s-firsts) ∷ ‵ (fat fullShare ty9 l9 0 s-starts) ∷ ‵ (fat fullShare ty10 l10 0 s-groups) ∷ ‵ (fat fullShare ty11 l11 0 s-tasks) ∷ ‵ (fat fullShare ty12 l12 0 s-top) ∷ ‵ (fat fullShare ty13 l13 0 s-words) ∷ ‵ (fat fullShare ty14 l14 0 s-floats) ∷ ‵ (fat fullShare ty15 l15 0 s-rows) ∷ ‵ (fat fullShare ty16 l16 0 s-values) ∷ ‵ (fat fullShare ty19 l19 0 r1) ∷ ‵ (fat fullShare ty20 l20 0 r2) ∷ ‵ (fat fullShare ty23 l23 0 r4) ∷ []) $
           w-move ! (30 ∷ []) $ w-unpack ! (‵ (MutSlice (named 14) κ-b f64 .own (ref-b γ-b b) (sliceVal (b-b, o-b) (length b) ∷ [])) ∷ ‵ (MutRef (named 15) κ-out (Array u8 2959) .own (ref-out γ-out out) (s-out ∷ [])) ∷ ‵ (flft κ-b q-b) ∷ ‵ (flft κ-out q-out) ∷ ‵ (fat fullShare ty17 l17 0 s-b) ∷ ‵ (fat fullShare ty18 l18 0 s-out) ∷ ‵ (fat fullShare ty21 l21 0 r3) ∷ raw (Packed 𝓤 H A spare5) ∷ raw (Packed 𝓤 H A dying) ∷ []) $
-          w-keep ! (38 ∷ 37 ∷ 36 ∷ 35 ∷ 29 ∷ 27 ∷ 25 ∷ 23 ∷ 21 ∷ 19 ∷ 17 ∷ 15 ∷ 13 ∷ 10 ∷ 0 ∷ 1 ∷ 34 ∷ 33 ∷ 32 ∷ 31 ∷ 30 ∷ 28 ∷ 26 ∷ 24 ∷ 22 ∷ 20 ∷ 18 ∷ 16 ∷ 14 ∷ 11 ∷ 2 ∷ 3 ∷ 39 ∷ 40 ∷ 41 ∷ 42 ∷ 43 ∷ 44 ∷ 45 ∷ 46 ∷ 47 ∷ 48 ∷ 49 ∷ 50 ∷ 51 ∷ 52 ∷ 53 ∷ 54 ∷ 55 ∷ 4 ∷ 5 ∷ 56 ∷ 57 ∷ 6 ∷ 12 ∷ 58 ∷ 9 ∷ 7 ∷ 8 ∷ []) $ after4 u1 r1 is1 d1 u2 r2 is2 d2 u3 r3 is3 d3 updates made-updates size-updates u4 r4 is4 (zs4 .1 .1 .1 .1 .1 .1 .1 .1 .0) (zs4 .1 .1 .1 .1 .1 .1 .1 .1 .1 .0) (zs4 .1 .1 .1 .1 .1 .1 .1 .1 .1 .1 .0) (zs4 .1 .1 .1 .1 .1 .1 .1 .1 .1 .1 .1 .0) (zs4 .1 .1 .1 .1 .1 .1 .1 .1 .1 .1 .1 .1 .0) (zs4 .1 .1 .1 .1 .1 .1 .1 .1 .1 .1 .1 .1 .1 .0) (zs4 .1 .1 .1 .1 .1 .1 .1 .1 .1 .1 .1 .1 .1 .1 .0) (zs4 .1 .1 .1 .1 .1 .1 .1 .1 .1 .1 .1 .1 .1 .1 .1 .0) (zs4 .1 .1 .1 .1 .1 .1 .1 .1 .1 .1 .1 .1 .1 .1 .1 .1 .0) (zs4 .1 .1 .1 .1 .1 .1 .1 .1 .1 .1 .1 .1 .1 .1 .1 .1 .1 .0) (zs4 .1 .1 .1 .1 .1 .1 .1 .1 .1 .1 .1 .1 .1 .1 .1 .1 .1 .1 .0) d4 same4-permutation same4-firsts same4-starts same4-groups same4-tasks same4-top same4-words same4-floats same4-rows same4-updates same4-values))))))))))))))))))))))))))))))))))))))
+          w-keep ! (38 ∷ 37 ∷ 36 ∷ 35 ∷ 29 ∷ 27 ∷ 25 ∷ 23 ∷ 21 ∷ 19 ∷ 17 ∷ 15 ∷ 13 ∷ 10 ∷ 0 ∷ 1 ∷ 34 ∷ 33 ∷ 32 ∷ 31 ∷ 30 ∷ 28 ∷ 26 ∷ 24 ∷ 22 ∷ 20 ∷ 18 ∷ 16 ∷ 14 ∷ 11 ∷ 2 ∷ 3 ∷ 39 ∷ 40 ∷ 41 ∷ 42 ∷ 43 ∷ 44 ∷ 45 ∷ 46 ∷ 47 ∷ 48 ∷ 49 ∷ 50 ∷ 51 ∷ 52 ∷ 53 ∷ 54 ∷ 55 ∷ 4 ∷ 5 ∷ 56 ∷ 57 ∷ 6 ∷ 12 ∷ 58 ∷ 9 ∷ 7 ∷ 8 ∷ []) $ after4 u1 r1 is1 d1 u2 r2 is2 d2 u3 r3 is3 d3 updates made-updates size-updates u4 r4 is4 (zs4 .1 .1 .1 .1 .1 .1 .1 .1 .0) (zs4 .1 .1 .1 .1 .1 .1 .1 .1 .1 .0) (zs4 .1 .1 .1 .1 .1 .1 .1 .1 .1 .1 .0) (zs4 .1 .1 .1 .1 .1 .1 .1 .1 .1 .1 .1 .0) (zs4 .1 .1 .1 .1 .1 .1 .1 .1 .1 .1 .1 .1 .0) (zs4 .1 .1 .1 .1 .1 .1 .1 .1 .1 .1 .1 .1 .1 .0) (zs4 .1 .1 .1 .1 .1 .1 .1 .1 .1 .1 .1 .1 .1 .1 .0) (zs4 .1 .1 .1 .1 .1 .1 .1 .1 .1 .1 .1 .1 .1 .1 .1 .0) (zs4 .1 .1 .1 .1 .1 .1 .1 .1 .1 .1 .1 .1 .1 .1 .1 .1 .0) (zs4 .1 .1 .1 .1 .1 .1 .1 .1 .1 .1 .1 .1 .1 .1 .1 .1 .1 .0) (zs4 .1 .1 .1 .1 .1 .1 .1 .1 .1 .1 .1 .1 .1 .1 .1 .1 .1 .1 .0) d4 same4-permutation same4-firsts same4-starts same4-groups same4-tasks same4-top same4-words same4-floats same4-rows same4-updates same4-values))))))))))))))))))))))))))))
 
       after3 : (u1 : Order) (r1 : Val) (is1 : Is T-Order.the-row u1 (r1 ∷ [])) (d1 : u1 ≡ Plain) (u2 : Stop) (r2 : Val) (is2 : Is T-Stop.the-row u2 (r2 ∷ [])) (d2 : u2 ≡ End) (u3 : Update) (r3 : Val) (is3 : Is T-Update.the-row u3 (r3 ∷ [])) (d3 : u3 ≡ noUpdate) → Sq W (‵ (ShrSlice (named 0) κ-input-starts usize .own (ref-input-starts γ-input-starts input-starts) (sliceVal (b-input-starts, o-input-starts) (length input-starts) ∷ [])) ∷ ‵ (ShrSlice (named 1) κ-input-rows usize .own (ref-input-rows γ-input-rows input-rows) (sliceVal (b-input-rows, o-input-rows) (length input-rows) ∷ [])) ∷ ‵ (ShrSlice (named 2) κ-input-values f64 .own (ref-input-values γ-input-values input-values) (sliceVal (b-input-values, o-input-values) (length input-values) ∷ [])) ∷ ‵ (ShrSlice (named 3) κ-list usize .own (ref-list γ-list «list») (sliceVal (b-list, o-list) (length «list») ∷ [])) ∷ ‵ (MutSlice (named 4) κ-permutation usize .own (ref-permutation γ-permutation permutation) (sliceVal (b-permutation, o-permutation) (length permutation) ∷ [])) ∷ ‵ (MutSlice (named 5) κ-firsts usize .own (ref-firsts γ-firsts firsts) (sliceVal (b-firsts, o-firsts) (length firsts) ∷ [])) ∷ ‵ (MutSlice (named 6) κ-starts usize .own (ref-starts γ-starts starts) (sliceVal (b-starts, o-starts) (length starts) ∷ [])) ∷ ‵ (MutSlice (named 7) κ-groups usize .own (ref-groups γ-groups groups) (sliceVal (b-groups, o-groups) (length groups) ∷ [])) ∷ ‵ (MutSlice (named 8) κ-tasks usize .own (ref-tasks γ-tasks tasks) (sliceVal (b-tasks, o-tasks) (length tasks) ∷ [])) ∷ ‵ (MutSlice (named 9) κ-top usize .own (ref-top γ-top top) (sliceVal (b-top, o-top) (length top) ∷ [])) ∷ ‵ (MutSlice (named 10) κ-words usize .own (ref-words γ-words words) (sliceVal (b-words, o-words) (length words) ∷ [])) ∷ ‵ (MutSlice (named 11) κ-floats f64 .own (ref-floats γ-floats floats) (sliceVal (b-floats, o-floats) (length floats) ∷ [])) ∷ ‵ (MutSlice (named 12) κ-rows usize .own (ref-rows γ-rows rows) (sliceVal (b-rows, o-rows) (length rows) ∷ [])) ∷ ‵ (MutSlice (named 13) κ-values f64 .own (ref-values γ-values values) (sliceVal (b-values, o-values) (length values) ∷ [])) ∷ ‵ (MutSlice (named 14) κ-b f64 .own (ref-b γ-b b) (sliceVal (b-b, o-b) (length b) ∷ [])) ∷ ‵ (MutRef (named 15) κ-out (Array u8 2959) .own (ref-out γ-out out) (s-out ∷ [])) ∷ ‵ (flft κ-input-starts q-input-starts) ∷ ‵ (flft κ-input-rows q-input-rows) ∷ ‵ (flft κ-input-values q-input-values) ∷ ‵ (flft κ-list q-list) ∷ ‵ (flft κ-permutation q-permutation) ∷ ‵ (flft κ-firsts q-firsts) ∷ ‵ (flft κ-starts q-starts) ∷ ‵ (flft κ-groups q-groups) ∷ ‵ (flft κ-tasks q-tasks) ∷ ‵ (flft κ-top q-top) ∷ ‵ (flft κ-words q-words) ∷ ‵ (flft κ-floats q-floats) ∷ ‵ (flft κ-rows q-rows) ∷ ‵ (flft κ-values q-values) ∷ ‵ (flft κ-b q-b) ∷ ‵ (flft κ-out q-out) ∷ ‵ (froom ty0 l0 0) ∷ ‵ (fat fullShare ty1 l1 0 (vint w64 n)) ∷ ‵ (fat fullShare ty2 l2 0 s-input-starts) ∷ ‵ (fat fullShare ty3 l3 0 s-input-rows) ∷ ‵ (fat fullShare ty4 l4 0 s-input-values) ∷ ‵ (fat fullShare ty5 l5 0 (vint w64 cap)) ∷ ‵ (fat fullShare ty6 l6 0 s-list) ∷ ‵ (fat fullShare ty7 l7 0 s-permutation) ∷ ‵ (fat fullShare ty8 l8 0 s-firsts) ∷ ‵ (fat fullShare ty9 l9 0 s-starts) ∷ ‵ (fat fullShare ty10 l10 0 s-groups) ∷ ‵ (fat fullShare ty11 l11 0 s-tasks) ∷ ‵ (fat fullShare ty12 l12 0 s-top) ∷ ‵ (fat fullShare ty13 l13 0 s-words) ∷ ‵ (fat fullShare ty14 l14 0 s-floats) ∷ ‵ (fat fullShare ty15 l15 0 s-rows) ∷ ‵ (fat fullShare ty16 l16 0 s-values) ∷ ‵ (fat fullShare ty17 l17 0 s-b) ∷ ‵ (fat fullShare ty18 l18 0 s-out) ∷ ‵ (fat fullShare ty19 l19 0 r1) ∷ ‵ (fat fullShare ty20 l20 0 r2) ∷ ‵ (fat fullShare ty21 l21 0 r3) ∷ ‵ (froom ty22 l22 0) ∷ ‵ (froom ty23 l23 0) ∷ raw (Packed 𝓤 H A spare4) ∷ raw (Packed 𝓤 H A spare5) ∷ raw (Packed 𝓤 H A dying) ∷ []) (runs C Λ En body.t-4 (atRet En Post))
       after3 u1 r1 is1 d1 u2 r2 is2 d2 u3 r3 is3 d3 =
@@ -612,6 +611,7 @@ module _ {M : Type 1} (𝓤 : URA M) (H : Heap 𝓤) (A : Atoms 𝓤) (W : Given
           w-drop ! $
           w-split ! $ w-move ! (1 ∷ []) $ w-peeks ! T-Update.the-row (Is T-Update.the-row) (shows 𝓤 H A T-Update.the-row) u3 (r3 ∷ []) (λ is3. w-land ! (w-from ! (w-stop !)) (w-init ! 3 refl (LL.lawful T-Update.the-type L-Update.the-laws 𝓤 H A W .typed u3 _ is3 .0)) $
           w-drop ! $ w-drop ! $
+          w-written ! (raw (Packed 𝓤 H A (‵ (ShrSlice (named 0) κ-input-starts usize .own (ref-input-starts γ-input-starts input-starts) (sliceVal (b-input-starts, o-input-starts) (length input-starts) ∷ [])) ∷ ‵ (ShrSlice (named 1) κ-input-rows usize .own (ref-input-rows γ-input-rows input-rows) (sliceVal (b-input-rows, o-input-rows) (length input-rows) ∷ [])) ∷ ‵ (ShrSlice (named 2) κ-input-values f64 .own (ref-input-values γ-input-values input-values) (sliceVal (b-input-values, o-input-values) (length input-values) ∷ [])) ∷ ‵ (ShrSlice (named 3) κ-list usize .own (ref-list γ-list «list») (sliceVal (b-list, o-list) (length «list») ∷ [])) ∷ ‵ (MutSlice (named 4) κ-permutation usize .own (ref-permutation γ-permutation permutation) (sliceVal (b-permutation, o-permutation) (length permutation) ∷ [])) ∷ ‵ (MutSlice (named 5) κ-firsts usize .own (ref-firsts γ-firsts firsts) (sliceVal (b-firsts, o-firsts) (length firsts) ∷ [])) ∷ ‵ (MutSlice (named 6) κ-starts usize .own (ref-starts γ-starts starts) (sliceVal (b-starts, o-starts) (length starts) ∷ [])) ∷ ‵ (MutSlice (named 7) κ-groups usize .own (ref-groups γ-groups groups) (sliceVal (b-groups, o-groups) (length groups) ∷ [])) ∷ ‵ (MutSlice (named 8) κ-tasks usize .own (ref-tasks γ-tasks tasks) (sliceVal (b-tasks, o-tasks) (length tasks) ∷ [])) ∷ ‵ (MutSlice (named 9) κ-top usize .own (ref-top γ-top top) (sliceVal (b-top, o-top) (length top) ∷ [])) ∷ ‵ (MutSlice (named 10) κ-words usize .own (ref-words γ-words words) (sliceVal (b-words, o-words) (length words) ∷ [])) ∷ ‵ (MutSlice (named 11) κ-floats f64 .own (ref-floats γ-floats floats) (sliceVal (b-floats, o-floats) (length floats) ∷ [])) ∷ ‵ (MutSlice (named 12) κ-rows usize .own (ref-rows γ-rows rows) (sliceVal (b-rows, o-rows) (length rows) ∷ [])) ∷ ‵ (MutSlice (named 13) κ-values f64 .own (ref-values γ-values values) (sliceVal (b-values, o-values) (length values) ∷ [])) ∷ ‵ (MutSlice (named 14) κ-b f64 .own (ref-b γ-b b) (sliceVal (b-b, o-b) (length b) ∷ [])) ∷ ‵ (MutRef (named 15) κ-out (Array u8 2959) .own (ref-out γ-out out) (s-out ∷ [])) ∷ ‵ (flft κ-input-starts q-input-starts) ∷ ‵ (flft κ-input-rows q-input-rows) ∷ ‵ (flft κ-input-values q-input-values) ∷ ‵ (flft κ-list q-list) ∷ ‵ (flft κ-permutation q-permutation) ∷ ‵ (flft κ-firsts q-firsts) ∷ ‵ (flft κ-starts q-starts) ∷ ‵ (flft κ-groups q-groups) ∷ ‵ (flft κ-tasks q-tasks) ∷ ‵ (flft κ-top q-top) ∷ ‵ (flft κ-words q-words) ∷ ‵ (flft κ-floats q-floats) ∷ ‵ (flft κ-rows q-rows) ∷ ‵ (flft κ-values q-values) ∷ ‵ (flft κ-b q-b) ∷ ‵ (flft κ-out q-out) ∷ ‵ (froom ty0 l0 0) ∷ ‵ (fat fullShare ty1 l1 0 (vint w64 n)) ∷ ‵ (fat fullShare ty2 l2 0 s-input-starts) ∷ ‵ (fat fullShare ty3 l3 0 s-input-rows) ∷ ‵ (fat fullShare ty4 l4 0 s-input-values) ∷ ‵ (fat fullShare ty5 l5 0 (vint w64 cap)) ∷ ‵ (fat fullShare ty6 l6 0 s-list) ∷ ‵ (fat fullShare ty7 l7 0 s-permutation) ∷ ‵ (fat fullShare ty8 l8 0 s-firsts) ∷ ‵ (fat fullShare ty9 l9 0 s-starts) ∷ ‵ (fat fullShare ty10 l10 0 s-groups) ∷ ‵ (fat fullShare ty11 l11 0 s-tasks) ∷ ‵ (fat fullShare ty12 l12 0 s-top) ∷ ‵ (fat fullShare ty13 l13 0 s-words) ∷ ‵ (fat fullShare ty14 l14 0 s-floats) ∷ ‵ (fat fullShare ty15 l15 0 s-rows) ∷ ‵ (fat fullShare ty16 l16 0 s-values) ∷ ‵ (fat fullShare ty17 l17 0 s-b) ∷ ‵ (fat fullShare ty18 l18 0 s-out) ∷ ‵ (fat fullShare ty19 l19 0 r1) ∷ ‵ (fat fullShare ty20 l20 0 r2) ∷ ‵ (froom ty22 l22 0) ∷ ‵ (froom ty23 l23 0) ∷ raw (Packed 𝓤 H A spare4) ∷ raw (Packed 𝓤 H A spare5) ∷ raw (Packed 𝓤 H A dying) ∷ [])) ∷ ‵ (fat fullShare ty21 l21 0 r3) ∷ []) $
           w-unpack ! (‵ (ShrSlice (named 0) κ-input-starts usize .own (ref-input-starts γ-input-starts input-starts) (sliceVal (b-input-starts, o-input-starts) (length input-starts) ∷ [])) ∷ ‵ (ShrSlice (named 1) κ-input-rows usize .own (ref-input-rows γ-input-rows input-rows) (sliceVal (b-input-rows, o-input-rows) (length input-rows) ∷ [])) ∷ ‵ (ShrSlice (named 2) κ-input-values f64 .own (ref-input-values γ-input-values input-values) (sliceVal (b-input-values, o-input-values) (length input-values) ∷ [])) ∷ ‵ (ShrSlice (named 3) κ-list usize .own (ref-list γ-list «list») (sliceVal (b-list, o-list) (length «list») ∷ [])) ∷ ‵ (MutSlice (named 4) κ-permutation usize .own (ref-permutation γ-permutation permutation) (sliceVal (b-permutation, o-permutation) (length permutation) ∷ [])) ∷ ‵ (MutSlice (named 5) κ-firsts usize .own (ref-firsts γ-firsts firsts) (sliceVal (b-firsts, o-firsts) (length firsts) ∷ [])) ∷ ‵ (MutSlice (named 6) κ-starts usize .own (ref-starts γ-starts starts) (sliceVal (b-starts, o-starts) (length starts) ∷ [])) ∷ ‵ (MutSlice (named 7) κ-groups usize .own (ref-groups γ-groups groups) (sliceVal (b-groups, o-groups) (length groups) ∷ [])) ∷ ‵ (MutSlice (named 8) κ-tasks usize .own (ref-tasks γ-tasks tasks) (sliceVal (b-tasks, o-tasks) (length tasks) ∷ [])) ∷ ‵ (MutSlice (named 9) κ-top usize .own (ref-top γ-top top) (sliceVal (b-top, o-top) (length top) ∷ [])) ∷ ‵ (MutSlice (named 10) κ-words usize .own (ref-words γ-words words) (sliceVal (b-words, o-words) (length words) ∷ [])) ∷ ‵ (MutSlice (named 11) κ-floats f64 .own (ref-floats γ-floats floats) (sliceVal (b-floats, o-floats) (length floats) ∷ [])) ∷ ‵ (MutSlice (named 12) κ-rows usize .own (ref-rows γ-rows rows) (sliceVal (b-rows, o-rows) (length rows) ∷ [])) ∷ ‵ (MutSlice (named 13) κ-values f64 .own (ref-values γ-values values) (sliceVal (b-values, o-values) (length values) ∷ [])) ∷ ‵ (MutSlice (named 14) κ-b f64 .own (ref-b γ-b b) (sliceVal (b-b, o-b) (length b) ∷ [])) ∷ ‵ (MutRef (named 15) κ-out (Array u8 2959) .own (ref-out γ-out out) (s-out ∷ [])) ∷ ‵ (flft κ-input-starts q-input-starts) ∷ ‵ (flft κ-input-rows q-input-rows) ∷ ‵ (flft κ-input-values q-input-values) ∷ ‵ (flft κ-list q-list) ∷ ‵ (flft κ-permutation q-permutation) ∷ ‵ (flft κ-firsts q-firsts) ∷ ‵ (flft κ-starts q-starts) ∷ ‵ (flft κ-groups q-groups) ∷ ‵ (flft κ-tasks q-tasks) ∷ ‵ (flft κ-top q-top) ∷ ‵ (flft κ-words q-words) ∷ ‵ (flft κ-floats q-floats) ∷ ‵ (flft κ-rows q-rows) ∷ ‵ (flft κ-values q-values) ∷ ‵ (flft κ-b q-b) ∷ ‵ (flft κ-out q-out) ∷ ‵ (froom ty0 l0 0) ∷ ‵ (fat fullShare ty1 l1 0 (vint w64 n)) ∷ ‵ (fat fullShare ty2 l2 0 s-input-starts) ∷ ‵ (fat fullShare ty3 l3 0 s-input-rows) ∷ ‵ (fat fullShare ty4 l4 0 s-input-values) ∷ ‵ (fat fullShare ty5 l5 0 (vint w64 cap)) ∷ ‵ (fat fullShare ty6 l6 0 s-list) ∷ ‵ (fat fullShare ty7 l7 0 s-permutation) ∷ ‵ (fat fullShare ty8 l8 0 s-firsts) ∷ ‵ (fat fullShare ty9 l9 0 s-starts) ∷ ‵ (fat fullShare ty10 l10 0 s-groups) ∷ ‵ (fat fullShare ty11 l11 0 s-tasks) ∷ ‵ (fat fullShare ty12 l12 0 s-top) ∷ ‵ (fat fullShare ty13 l13 0 s-words) ∷ ‵ (fat fullShare ty14 l14 0 s-floats) ∷ ‵ (fat fullShare ty15 l15 0 s-rows) ∷ ‵ (fat fullShare ty16 l16 0 s-values) ∷ ‵ (fat fullShare ty17 l17 0 s-b) ∷ ‵ (fat fullShare ty18 l18 0 s-out) ∷ ‵ (fat fullShare ty19 l19 0 r1) ∷ ‵ (fat fullShare ty20 l20 0 r2) ∷ ‵ (froom ty22 l22 0) ∷ ‵ (froom ty23 l23 0) ∷ raw (Packed 𝓤 H A spare4) ∷ raw (Packed 𝓤 H A spare5) ∷ raw (Packed 𝓤 H A dying) ∷ []) $
           w-keep ! (0 ∷ 1 ∷ 2 ∷ 3 ∷ 4 ∷ 5 ∷ 6 ∷ 7 ∷ 8 ∷ 9 ∷ 10 ∷ 11 ∷ 12 ∷ 13 ∷ 14 ∷ 15 ∷ 16 ∷ 17 ∷ 18 ∷ 19 ∷ 20 ∷ 21 ∷ 22 ∷ 23 ∷ 24 ∷ 25 ∷ 26 ∷ 27 ∷ 28 ∷ 29 ∷ 30 ∷ 31 ∷ 32 ∷ 33 ∷ 34 ∷ 35 ∷ 36 ∷ 37 ∷ 38 ∷ 39 ∷ 40 ∷ 41 ∷ 42 ∷ 43 ∷ 44 ∷ 45 ∷ 46 ∷ 47 ∷ 48 ∷ 49 ∷ 50 ∷ 51 ∷ 52 ∷ 58 ∷ 53 ∷ 54 ∷ 55 ∷ 56 ∷ 57 ∷ []) $ after3 u1 r1 is1 d1 u2 r2 is2 d2 u3 r3 is3 d3)))))
 
@@ -627,6 +627,7 @@ module _ {M : Type 1} (𝓤 : URA M) (H : Heap 𝓤) (A : Atoms 𝓤) (W : Given
           w-drop ! $
           w-split ! $ w-move ! (1 ∷ []) $ w-peeks ! T-Stop.the-row (Is T-Stop.the-row) (shows 𝓤 H A T-Stop.the-row) u2 (r2 ∷ []) (λ is2. w-land ! (w-from ! (w-stop !)) (w-init ! 3 refl (EL.lawful T-Stop.the-type L-Stop.the-laws 𝓤 H A W tt .typed u2 _ is2 .0)) $
           w-drop ! $ w-drop ! $
+          w-written ! (raw (Packed 𝓤 H A (‵ (ShrSlice (named 0) κ-input-starts usize .own (ref-input-starts γ-input-starts input-starts) (sliceVal (b-input-starts, o-input-starts) (length input-starts) ∷ [])) ∷ ‵ (ShrSlice (named 1) κ-input-rows usize .own (ref-input-rows γ-input-rows input-rows) (sliceVal (b-input-rows, o-input-rows) (length input-rows) ∷ [])) ∷ ‵ (ShrSlice (named 2) κ-input-values f64 .own (ref-input-values γ-input-values input-values) (sliceVal (b-input-values, o-input-values) (length input-values) ∷ [])) ∷ ‵ (ShrSlice (named 3) κ-list usize .own (ref-list γ-list «list») (sliceVal (b-list, o-list) (length «list») ∷ [])) ∷ ‵ (MutSlice (named 4) κ-permutation usize .own (ref-permutation γ-permutation permutation) (sliceVal (b-permutation, o-permutation) (length permutation) ∷ [])) ∷ ‵ (MutSlice (named 5) κ-firsts usize .own (ref-firsts γ-firsts firsts) (sliceVal (b-firsts, o-firsts) (length firsts) ∷ [])) ∷ ‵ (MutSlice (named 6) κ-starts usize .own (ref-starts γ-starts starts) (sliceVal (b-starts, o-starts) (length starts) ∷ [])) ∷ ‵ (MutSlice (named 7) κ-groups usize .own (ref-groups γ-groups groups) (sliceVal (b-groups, o-groups) (length groups) ∷ [])) ∷ ‵ (MutSlice (named 8) κ-tasks usize .own (ref-tasks γ-tasks tasks) (sliceVal (b-tasks, o-tasks) (length tasks) ∷ [])) ∷ ‵ (MutSlice (named 9) κ-top usize .own (ref-top γ-top top) (sliceVal (b-top, o-top) (length top) ∷ [])) ∷ ‵ (MutSlice (named 10) κ-words usize .own (ref-words γ-words words) (sliceVal (b-words, o-words) (length words) ∷ [])) ∷ ‵ (MutSlice (named 11) κ-floats f64 .own (ref-floats γ-floats floats) (sliceVal (b-floats, o-floats) (length floats) ∷ [])) ∷ ‵ (MutSlice (named 12) κ-rows usize .own (ref-rows γ-rows rows) (sliceVal (b-rows, o-rows) (length rows) ∷ [])) ∷ ‵ (MutSlice (named 13) κ-values f64 .own (ref-values γ-values values) (sliceVal (b-values, o-values) (length values) ∷ [])) ∷ ‵ (MutSlice (named 14) κ-b f64 .own (ref-b γ-b b) (sliceVal (b-b, o-b) (length b) ∷ [])) ∷ ‵ (MutRef (named 15) κ-out (Array u8 2959) .own (ref-out γ-out out) (s-out ∷ [])) ∷ ‵ (flft κ-input-starts q-input-starts) ∷ ‵ (flft κ-input-rows q-input-rows) ∷ ‵ (flft κ-input-values q-input-values) ∷ ‵ (flft κ-list q-list) ∷ ‵ (flft κ-permutation q-permutation) ∷ ‵ (flft κ-firsts q-firsts) ∷ ‵ (flft κ-starts q-starts) ∷ ‵ (flft κ-groups q-groups) ∷ ‵ (flft κ-tasks q-tasks) ∷ ‵ (flft κ-top q-top) ∷ ‵ (flft κ-words q-words) ∷ ‵ (flft κ-floats q-floats) ∷ ‵ (flft κ-rows q-rows) ∷ ‵ (flft κ-values q-values) ∷ ‵ (flft κ-b q-b) ∷ ‵ (flft κ-out q-out) ∷ ‵ (froom ty0 l0 0) ∷ ‵ (fat fullShare ty1 l1 0 (vint w64 n)) ∷ ‵ (fat fullShare ty2 l2 0 s-input-starts) ∷ ‵ (fat fullShare ty3 l3 0 s-input-rows) ∷ ‵ (fat fullShare ty4 l4 0 s-input-values) ∷ ‵ (fat fullShare ty5 l5 0 (vint w64 cap)) ∷ ‵ (fat fullShare ty6 l6 0 s-list) ∷ ‵ (fat fullShare ty7 l7 0 s-permutation) ∷ ‵ (fat fullShare ty8 l8 0 s-firsts) ∷ ‵ (fat fullShare ty9 l9 0 s-starts) ∷ ‵ (fat fullShare ty10 l10 0 s-groups) ∷ ‵ (fat fullShare ty11 l11 0 s-tasks) ∷ ‵ (fat fullShare ty12 l12 0 s-top) ∷ ‵ (fat fullShare ty13 l13 0 s-words) ∷ ‵ (fat fullShare ty14 l14 0 s-floats) ∷ ‵ (fat fullShare ty15 l15 0 s-rows) ∷ ‵ (fat fullShare ty16 l16 0 s-values) ∷ ‵ (fat fullShare ty17 l17 0 s-b) ∷ ‵ (fat fullShare ty18 l18 0 s-out) ∷ ‵ (fat fullShare ty19 l19 0 r1) ∷ ‵ (froom ty21 l21 0) ∷ ‵ (froom ty22 l22 0) ∷ ‵ (froom ty23 l23 0) ∷ raw (Packed 𝓤 H A spare4) ∷ raw (Packed 𝓤 H A spare5) ∷ raw (Packed 𝓤 H A dying) ∷ [])) ∷ ‵ (fat fullShare ty20 l20 0 r2) ∷ []) $
           w-unpack ! (‵ (ShrSlice (named 0) κ-input-starts usize .own (ref-input-starts γ-input-starts input-starts) (sliceVal (b-input-starts, o-input-starts) (length input-starts) ∷ [])) ∷ ‵ (ShrSlice (named 1) κ-input-rows usize .own (ref-input-rows γ-input-rows input-rows) (sliceVal (b-input-rows, o-input-rows) (length input-rows) ∷ [])) ∷ ‵ (ShrSlice (named 2) κ-input-values f64 .own (ref-input-values γ-input-values input-values) (sliceVal (b-input-values, o-input-values) (length input-values) ∷ [])) ∷ ‵ (ShrSlice (named 3) κ-list usize .own (ref-list γ-list «list») (sliceVal (b-list, o-list) (length «list») ∷ [])) ∷ ‵ (MutSlice (named 4) κ-permutation usize .own (ref-permutation γ-permutation permutation) (sliceVal (b-permutation, o-permutation) (length permutation) ∷ [])) ∷ ‵ (MutSlice (named 5) κ-firsts usize .own (ref-firsts γ-firsts firsts) (sliceVal (b-firsts, o-firsts) (length firsts) ∷ [])) ∷ ‵ (MutSlice (named 6) κ-starts usize .own (ref-starts γ-starts starts) (sliceVal (b-starts, o-starts) (length starts) ∷ [])) ∷ ‵ (MutSlice (named 7) κ-groups usize .own (ref-groups γ-groups groups) (sliceVal (b-groups, o-groups) (length groups) ∷ [])) ∷ ‵ (MutSlice (named 8) κ-tasks usize .own (ref-tasks γ-tasks tasks) (sliceVal (b-tasks, o-tasks) (length tasks) ∷ [])) ∷ ‵ (MutSlice (named 9) κ-top usize .own (ref-top γ-top top) (sliceVal (b-top, o-top) (length top) ∷ [])) ∷ ‵ (MutSlice (named 10) κ-words usize .own (ref-words γ-words words) (sliceVal (b-words, o-words) (length words) ∷ [])) ∷ ‵ (MutSlice (named 11) κ-floats f64 .own (ref-floats γ-floats floats) (sliceVal (b-floats, o-floats) (length floats) ∷ [])) ∷ ‵ (MutSlice (named 12) κ-rows usize .own (ref-rows γ-rows rows) (sliceVal (b-rows, o-rows) (length rows) ∷ [])) ∷ ‵ (MutSlice (named 13) κ-values f64 .own (ref-values γ-values values) (sliceVal (b-values, o-values) (length values) ∷ [])) ∷ ‵ (MutSlice (named 14) κ-b f64 .own (ref-b γ-b b) (sliceVal (b-b, o-b) (length b) ∷ [])) ∷ ‵ (MutRef (named 15) κ-out (Array u8 2959) .own (ref-out γ-out out) (s-out ∷ [])) ∷ ‵ (flft κ-input-starts q-input-starts) ∷ ‵ (flft κ-input-rows q-input-rows) ∷ ‵ (flft κ-input-values q-input-values) ∷ ‵ (flft κ-list q-list) ∷ ‵ (flft κ-permutation q-permutation) ∷ ‵ (flft κ-firsts q-firsts) ∷ ‵ (flft κ-starts q-starts) ∷ ‵ (flft κ-groups q-groups) ∷ ‵ (flft κ-tasks q-tasks) ∷ ‵ (flft κ-top q-top) ∷ ‵ (flft κ-words q-words) ∷ ‵ (flft κ-floats q-floats) ∷ ‵ (flft κ-rows q-rows) ∷ ‵ (flft κ-values q-values) ∷ ‵ (flft κ-b q-b) ∷ ‵ (flft κ-out q-out) ∷ ‵ (froom ty0 l0 0) ∷ ‵ (fat fullShare ty1 l1 0 (vint w64 n)) ∷ ‵ (fat fullShare ty2 l2 0 s-input-starts) ∷ ‵ (fat fullShare ty3 l3 0 s-input-rows) ∷ ‵ (fat fullShare ty4 l4 0 s-input-values) ∷ ‵ (fat fullShare ty5 l5 0 (vint w64 cap)) ∷ ‵ (fat fullShare ty6 l6 0 s-list) ∷ ‵ (fat fullShare ty7 l7 0 s-permutation) ∷ ‵ (fat fullShare ty8 l8 0 s-firsts) ∷ ‵ (fat fullShare ty9 l9 0 s-starts) ∷ ‵ (fat fullShare ty10 l10 0 s-groups) ∷ ‵ (fat fullShare ty11 l11 0 s-tasks) ∷ ‵ (fat fullShare ty12 l12 0 s-top) ∷ ‵ (fat fullShare ty13 l13 0 s-words) ∷ ‵ (fat fullShare ty14 l14 0 s-floats) ∷ ‵ (fat fullShare ty15 l15 0 s-rows) ∷ ‵ (fat fullShare ty16 l16 0 s-values) ∷ ‵ (fat fullShare ty17 l17 0 s-b) ∷ ‵ (fat fullShare ty18 l18 0 s-out) ∷ ‵ (fat fullShare ty19 l19 0 r1) ∷ ‵ (froom ty21 l21 0) ∷ ‵ (froom ty22 l22 0) ∷ ‵ (froom ty23 l23 0) ∷ raw (Packed 𝓤 H A spare4) ∷ raw (Packed 𝓤 H A spare5) ∷ raw (Packed 𝓤 H A dying) ∷ []) $
           w-keep ! (0 ∷ 1 ∷ 2 ∷ 3 ∷ 4 ∷ 5 ∷ 6 ∷ 7 ∷ 8 ∷ 9 ∷ 10 ∷ 11 ∷ 12 ∷ 13 ∷ 14 ∷ 15 ∷ 16 ∷ 17 ∷ 18 ∷ 19 ∷ 20 ∷ 21 ∷ 22 ∷ 23 ∷ 24 ∷ 25 ∷ 26 ∷ 27 ∷ 28 ∷ 29 ∷ 30 ∷ 31 ∷ 32 ∷ 33 ∷ 34 ∷ 35 ∷ 36 ∷ 37 ∷ 38 ∷ 39 ∷ 40 ∷ 41 ∷ 42 ∷ 43 ∷ 44 ∷ 45 ∷ 46 ∷ 47 ∷ 48 ∷ 49 ∷ 50 ∷ 51 ∷ 58 ∷ 52 ∷ 53 ∷ 54 ∷ 55 ∷ 56 ∷ 57 ∷ []) $ after2 u1 r1 is1 d1 u2 r2 is2 d2)))))
 
@@ -642,6 +643,7 @@ module _ {M : Type 1} (𝓤 : URA M) (H : Heap 𝓤) (A : Atoms 𝓤) (W : Given
           w-drop ! $
           w-split ! $ w-move ! (1 ∷ []) $ w-peeks ! T-Order.the-row (Is T-Order.the-row) (shows 𝓤 H A T-Order.the-row) u1 (r1 ∷ []) (λ is1. w-land ! (w-from ! (w-stop !)) (w-init ! 3 refl (EL.lawful T-Order.the-type L-Order.the-laws 𝓤 H A W tt .typed u1 _ is1 .0)) $
           w-drop ! $ w-drop ! $
+          w-written ! (raw (Packed 𝓤 H A (‵ (ShrSlice (named 0) κ-input-starts usize .own (ref-input-starts γ-input-starts input-starts) (sliceVal (b-input-starts, o-input-starts) (length input-starts) ∷ [])) ∷ ‵ (ShrSlice (named 1) κ-input-rows usize .own (ref-input-rows γ-input-rows input-rows) (sliceVal (b-input-rows, o-input-rows) (length input-rows) ∷ [])) ∷ ‵ (ShrSlice (named 2) κ-input-values f64 .own (ref-input-values γ-input-values input-values) (sliceVal (b-input-values, o-input-values) (length input-values) ∷ [])) ∷ ‵ (ShrSlice (named 3) κ-list usize .own (ref-list γ-list «list») (sliceVal (b-list, o-list) (length «list») ∷ [])) ∷ ‵ (MutSlice (named 4) κ-permutation usize .own (ref-permutation γ-permutation permutation) (sliceVal (b-permutation, o-permutation) (length permutation) ∷ [])) ∷ ‵ (MutSlice (named 5) κ-firsts usize .own (ref-firsts γ-firsts firsts) (sliceVal (b-firsts, o-firsts) (length firsts) ∷ [])) ∷ ‵ (MutSlice (named 6) κ-starts usize .own (ref-starts γ-starts starts) (sliceVal (b-starts, o-starts) (length starts) ∷ [])) ∷ ‵ (MutSlice (named 7) κ-groups usize .own (ref-groups γ-groups groups) (sliceVal (b-groups, o-groups) (length groups) ∷ [])) ∷ ‵ (MutSlice (named 8) κ-tasks usize .own (ref-tasks γ-tasks tasks) (sliceVal (b-tasks, o-tasks) (length tasks) ∷ [])) ∷ ‵ (MutSlice (named 9) κ-top usize .own (ref-top γ-top top) (sliceVal (b-top, o-top) (length top) ∷ [])) ∷ ‵ (MutSlice (named 10) κ-words usize .own (ref-words γ-words words) (sliceVal (b-words, o-words) (length words) ∷ [])) ∷ ‵ (MutSlice (named 11) κ-floats f64 .own (ref-floats γ-floats floats) (sliceVal (b-floats, o-floats) (length floats) ∷ [])) ∷ ‵ (MutSlice (named 12) κ-rows usize .own (ref-rows γ-rows rows) (sliceVal (b-rows, o-rows) (length rows) ∷ [])) ∷ ‵ (MutSlice (named 13) κ-values f64 .own (ref-values γ-values values) (sliceVal (b-values, o-values) (length values) ∷ [])) ∷ ‵ (MutSlice (named 14) κ-b f64 .own (ref-b γ-b b) (sliceVal (b-b, o-b) (length b) ∷ [])) ∷ ‵ (MutRef (named 15) κ-out (Array u8 2959) .own (ref-out γ-out out) (s-out ∷ [])) ∷ ‵ (flft κ-input-starts q-input-starts) ∷ ‵ (flft κ-input-rows q-input-rows) ∷ ‵ (flft κ-input-values q-input-values) ∷ ‵ (flft κ-list q-list) ∷ ‵ (flft κ-permutation q-permutation) ∷ ‵ (flft κ-firsts q-firsts) ∷ ‵ (flft κ-starts q-starts) ∷ ‵ (flft κ-groups q-groups) ∷ ‵ (flft κ-tasks q-tasks) ∷ ‵ (flft κ-top q-top) ∷ ‵ (flft κ-words q-words) ∷ ‵ (flft κ-floats q-floats) ∷ ‵ (flft κ-rows q-rows) ∷ ‵ (flft κ-values q-values) ∷ ‵ (flft κ-b q-b) ∷ ‵ (flft κ-out q-out) ∷ ‵ (froom ty0 l0 0) ∷ ‵ (fat fullShare ty1 l1 0 (vint w64 n)) ∷ ‵ (fat fullShare ty2 l2 0 s-input-starts) ∷ ‵ (fat fullShare ty3 l3 0 s-input-rows) ∷ ‵ (fat fullShare ty4 l4 0 s-input-values) ∷ ‵ (fat fullShare ty5 l5 0 (vint w64 cap)) ∷ ‵ (fat fullShare ty6 l6 0 s-list) ∷ ‵ (fat fullShare ty7 l7 0 s-permutation) ∷ ‵ (fat fullShare ty8 l8 0 s-firsts) ∷ ‵ (fat fullShare ty9 l9 0 s-starts) ∷ ‵ (fat fullShare ty10 l10 0 s-groups) ∷ ‵ (fat fullShare ty11 l11 0 s-tasks) ∷ ‵ (fat fullShare ty12 l12 0 s-top) ∷ ‵ (fat fullShare ty13 l13 0 s-words) ∷ ‵ (fat fullShare ty14 l14 0 s-floats) ∷ ‵ (fat fullShare ty15 l15 0 s-rows) ∷ ‵ (fat fullShare ty16 l16 0 s-values) ∷ ‵ (fat fullShare ty17 l17 0 s-b) ∷ ‵ (fat fullShare ty18 l18 0 s-out) ∷ ‵ (froom ty20 l20 0) ∷ ‵ (froom ty21 l21 0) ∷ ‵ (froom ty22 l22 0) ∷ ‵ (froom ty23 l23 0) ∷ raw (Packed 𝓤 H A spare4) ∷ raw (Packed 𝓤 H A spare5) ∷ raw (Packed 𝓤 H A dying) ∷ [])) ∷ ‵ (fat fullShare ty19 l19 0 r1) ∷ []) $
           w-unpack ! (‵ (ShrSlice (named 0) κ-input-starts usize .own (ref-input-starts γ-input-starts input-starts) (sliceVal (b-input-starts, o-input-starts) (length input-starts) ∷ [])) ∷ ‵ (ShrSlice (named 1) κ-input-rows usize .own (ref-input-rows γ-input-rows input-rows) (sliceVal (b-input-rows, o-input-rows) (length input-rows) ∷ [])) ∷ ‵ (ShrSlice (named 2) κ-input-values f64 .own (ref-input-values γ-input-values input-values) (sliceVal (b-input-values, o-input-values) (length input-values) ∷ [])) ∷ ‵ (ShrSlice (named 3) κ-list usize .own (ref-list γ-list «list») (sliceVal (b-list, o-list) (length «list») ∷ [])) ∷ ‵ (MutSlice (named 4) κ-permutation usize .own (ref-permutation γ-permutation permutation) (sliceVal (b-permutation, o-permutation) (length permutation) ∷ [])) ∷ ‵ (MutSlice (named 5) κ-firsts usize .own (ref-firsts γ-firsts firsts) (sliceVal (b-firsts, o-firsts) (length firsts) ∷ [])) ∷ ‵ (MutSlice (named 6) κ-starts usize .own (ref-starts γ-starts starts) (sliceVal (b-starts, o-starts) (length starts) ∷ [])) ∷ ‵ (MutSlice (named 7) κ-groups usize .own (ref-groups γ-groups groups) (sliceVal (b-groups, o-groups) (length groups) ∷ [])) ∷ ‵ (MutSlice (named 8) κ-tasks usize .own (ref-tasks γ-tasks tasks) (sliceVal (b-tasks, o-tasks) (length tasks) ∷ [])) ∷ ‵ (MutSlice (named 9) κ-top usize .own (ref-top γ-top top) (sliceVal (b-top, o-top) (length top) ∷ [])) ∷ ‵ (MutSlice (named 10) κ-words usize .own (ref-words γ-words words) (sliceVal (b-words, o-words) (length words) ∷ [])) ∷ ‵ (MutSlice (named 11) κ-floats f64 .own (ref-floats γ-floats floats) (sliceVal (b-floats, o-floats) (length floats) ∷ [])) ∷ ‵ (MutSlice (named 12) κ-rows usize .own (ref-rows γ-rows rows) (sliceVal (b-rows, o-rows) (length rows) ∷ [])) ∷ ‵ (MutSlice (named 13) κ-values f64 .own (ref-values γ-values values) (sliceVal (b-values, o-values) (length values) ∷ [])) ∷ ‵ (MutSlice (named 14) κ-b f64 .own (ref-b γ-b b) (sliceVal (b-b, o-b) (length b) ∷ [])) ∷ ‵ (MutRef (named 15) κ-out (Array u8 2959) .own (ref-out γ-out out) (s-out ∷ [])) ∷ ‵ (flft κ-input-starts q-input-starts) ∷ ‵ (flft κ-input-rows q-input-rows) ∷ ‵ (flft κ-input-values q-input-values) ∷ ‵ (flft κ-list q-list) ∷ ‵ (flft κ-permutation q-permutation) ∷ ‵ (flft κ-firsts q-firsts) ∷ ‵ (flft κ-starts q-starts) ∷ ‵ (flft κ-groups q-groups) ∷ ‵ (flft κ-tasks q-tasks) ∷ ‵ (flft κ-top q-top) ∷ ‵ (flft κ-words q-words) ∷ ‵ (flft κ-floats q-floats) ∷ ‵ (flft κ-rows q-rows) ∷ ‵ (flft κ-values q-values) ∷ ‵ (flft κ-b q-b) ∷ ‵ (flft κ-out q-out) ∷ ‵ (froom ty0 l0 0) ∷ ‵ (fat fullShare ty1 l1 0 (vint w64 n)) ∷ ‵ (fat fullShare ty2 l2 0 s-input-starts) ∷ ‵ (fat fullShare ty3 l3 0 s-input-rows) ∷ ‵ (fat fullShare ty4 l4 0 s-input-values) ∷ ‵ (fat fullShare ty5 l5 0 (vint w64 cap)) ∷ ‵ (fat fullShare ty6 l6 0 s-list) ∷ ‵ (fat fullShare ty7 l7 0 s-permutation) ∷ ‵ (fat fullShare ty8 l8 0 s-firsts) ∷ ‵ (fat fullShare ty9 l9 0 s-starts) ∷ ‵ (fat fullShare ty10 l10 0 s-groups) ∷ ‵ (fat fullShare ty11 l11 0 s-tasks) ∷ ‵ (fat fullShare ty12 l12 0 s-top) ∷ ‵ (fat fullShare ty13 l13 0 s-words) ∷ ‵ (fat fullShare ty14 l14 0 s-floats) ∷ ‵ (fat fullShare ty15 l15 0 s-rows) ∷ ‵ (fat fullShare ty16 l16 0 s-values) ∷ ‵ (fat fullShare ty17 l17 0 s-b) ∷ ‵ (fat fullShare ty18 l18 0 s-out) ∷ ‵ (froom ty20 l20 0) ∷ ‵ (froom ty21 l21 0) ∷ ‵ (froom ty22 l22 0) ∷ ‵ (froom ty23 l23 0) ∷ raw (Packed 𝓤 H A spare4) ∷ raw (Packed 𝓤 H A spare5) ∷ raw (Packed 𝓤 H A dying) ∷ []) $
           w-keep ! (0 ∷ 1 ∷ 2 ∷ 3 ∷ 4 ∷ 5 ∷ 6 ∷ 7 ∷ 8 ∷ 9 ∷ 10 ∷ 11 ∷ 12 ∷ 13 ∷ 14 ∷ 15 ∷ 16 ∷ 17 ∷ 18 ∷ 19 ∷ 20 ∷ 21 ∷ 22 ∷ 23 ∷ 24 ∷ 25 ∷ 26 ∷ 27 ∷ 28 ∷ 29 ∷ 30 ∷ 31 ∷ 32 ∷ 33 ∷ 34 ∷ 35 ∷ 36 ∷ 37 ∷ 38 ∷ 39 ∷ 40 ∷ 41 ∷ 42 ∷ 43 ∷ 44 ∷ 45 ∷ 46 ∷ 47 ∷ 48 ∷ 49 ∷ 50 ∷ 58 ∷ 51 ∷ 52 ∷ 53 ∷ 54 ∷ 55 ∷ 56 ∷ 57 ∷ []) $ after1 u1 r1 is1 d1)))))
 

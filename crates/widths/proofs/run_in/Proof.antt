@@ -16,7 +16,7 @@ use denote.Plain.{Nothing, nothing-lawful, uint-makes, uint-tells, uint-vals}
 use denote.RattleType.{owns}
 use denote.Ref.{RefT}
 use denote.Signature.{plain}
-use denote.Slice.{MutSlice, Room, ShrSlice, mut-slice-tells, shr-slice-copy, shr-slice-tells, slice-vals, sliceTy, sliceVal}
+use denote.Slice.{MutSlice, Room, ShrSlice, finally, mut-slice-tells, shr-slice-copy, shr-slice-tells, slice-vals, sliceTy, sliceVal}
 use denote.Steps.{heard as w-heard, nothing as w-nothing, owned as w-owned, peeks as w-peeks}
 use denote.Triple.Call.{calls-at as w-calls-at}
 use denote.Triple.Clauses.{ensured, lasts}
@@ -32,14 +32,14 @@ use lib.Dec.{lit<}
 use lib.Ieee.{Float, binary64}
 use lib.ListN.{length, length-replicate, replicate}
 use mathlib.Core.List.{List, [], _∷_}
-use mathlib.Core.Path.{_∙_, _≡_, refl, subst, sym}
+use mathlib.Core.Path.{_∙_, _≡_, refl, sym}
 use mir.Syntax.{Ty, erased, imm, mut, named, tyArray, tyFloat, tyInt, tyRef, tyUnit, w64}
-use mir.Val.{Val, vint, vunit}
+use mir.Val.{Val, vint, vptr, vunit}
 use prog.Memory.{Memory}
 use prog.Routine.{Routine}
 use prog.Wp.{Calls, Env, Heap, Loops, Tables, WpFn}
 use sound.WpLaws.{FmC, WpFn-mono, fmOf}
-use types.Kit.{ !, Given, Item, Sq, _$_, _∵_, _⊛_, atRet, await as w-await, by as w-by, done, drop as w-drop, feqI as w-feqI, feqL as w-feqL, fjoin as w-fjoin, frame as w-frame, fsplit as w-fsplit, join as w-join, keep as w-keep, later, move as w-move, params′, pick as w-pick, qed, raw, rewrite as w-rewrite, runs, some, split as w-split, suffices as w-suffices, use1, use2, use3, ‵, ⋆}
+use types.Kit.{ !, Given, Item, Sq, _$_, _∵_, _⊛_, atRet, await as w-await, by as w-by, done, drop as w-drop, feqI as w-feqI, fjoin as w-fjoin, frame as w-frame, fsplit as w-fsplit, join as w-join, keep as w-keep, later, move as w-move, params′, pick as w-pick, qed, raw, rewrite as w-rewrite, runs, some, split as w-split, suffices as w-suffices, use1, use2, use3, ‵, ⋆}
 use types.Part.{agg as w-agg, look-in as w-look-in, rep as w-rep, sub as w-sub, whole as w-whole}
 use types.Run.{addr as w-addr, alloc0 as w-alloc0, alloc1 as w-alloc1, and-then as w-and-then, assigns as w-assigns, enter as w-enter, fld as w-fld, forget as w-forget, from as w-from, hop as w-hop, init as w-init, land as w-land, load as w-load, look as w-look, neg-lit as w-neg-lit, no-more as w-no-more, of-opd as w-of-opd, params1 as w-params1, pass0 as w-pass0, pass1 as w-pass1, returns as w-returns, stop as w-stop, unit-lit as w-unit-lit}
 use types.Tokens.{lft-end as w-lft-end, lft-new as w-lft-new}
@@ -70,9 +70,10 @@ use Rattle.widths.proofs.solve_and_print.Symbol as def-solve-and-print
 use Rattle.widths.proofs.solve_and_print.Symbol.{name as #widths·solve-and-print}
 use Rattle.widths.proofs.solve_and_print.Met as thm-solve-and-print
 use Rattle.update.proofs.Steps.{big-lit as w-big-lit, says-nothing as w-says-nothing}
-use Rattle.update.proofs.Packs.{Packed, pack as w-pack, unpack as w-unpack, homes-freed as w-homes-freed}
-use Rattle.update.proofs.Again.{LentAgain, lends-again, comes-back}
-use Rattle.update.proofs.Shared.{LentShared, lends-shared, shared-back}
+use Rattle.update.proofs.Packs.{Packed, pack as w-pack, unpack as w-unpack, written as w-written, homes-freed as w-homes-freed}
+use Rattle.update.proofs.Again.{LentAgain}
+use Rattle.update.proofs.Shared.{LentShared}
+use Rattle.update.proofs.Lending.{lend as w-lend, show as w-show, back as w-back, shown as w-shown, last as w-last, past as w-past}
 use Rattle.update.proofs.Owned.{Lies, LentOwned, ShownOwned, array-typed, array-made, array-dies, lends-owned, owned-back, shows-owned, shown-back}
 use Rattle.widths.proofs.run_in.Key.{name as #widths·run-in}
 use Rattle.widths.proofs.run_in as here
@@ -412,13 +413,13 @@ module _ {M : Type 1} (𝓤 : URA M) (H : Heap 𝓤) (A : Atoms 𝓤) (W : Given
     asked1 =
         qed W ((‵ ftrue) ∷ ‵ (owns ([]) tt tt) ∷ []) ∵ w-join ! $ w-frame ! $ done !
 
-    asked2 : (u1 : Update) (r1 : Val) (is1 : Is T-Update.the-row u1 (r1 ∷ [])) (d1 : u1 ≡ noUpdate) (updates : List Update) (made-updates : updates ≡ replicate 16384 u1) (size-updates : length updates ≡ 16384) (l20 : ℕ) (ν2-8 : ℕ) (δ2-8 : GName) (ν2-9 : ℕ) (δ2-9 : GName) (ν2-10 : ℕ) (δ2-10 : GName) (ν2-11 : ℕ) (δ2-11 : GName) (ν2-12 : ℕ) (δ2-12 : GName) (ν2-13 : ℕ) (δ2-13 : GName) (ν2-14 : ℕ) (δ2-14 : GName) (ν2-15 : ℕ) (δ2-15 : GName) (ν2-16 : ℕ) (δ2-16 : GName) (ν2-17 : ℕ) (δ2-17 : GName) (ν2-18 : ℕ) (δ2-18 : GName) → ent 𝓤 (onEntry 𝓤 H A f-factor.signature (κ-input-starts, (κ-input-rows, (κ-input-values, (κ-list, (ν2-8 ∷ [], (ν2-9 ∷ [], (ν2-10 ∷ [], (ν2-11 ∷ [], (ν2-12 ∷ [], (ν2-13 ∷ [], (ν2-14 ∷ [], (ν2-15 ∷ [], (ν2-16 ∷ [], (ν2-17 ∷ [], (ν2-18 ∷ [], tt))))))))))))))) (q-input-starts, (q-input-rows, (q-input-values, (q-list, (fullShare, (fullShare, (fullShare, (fullShare, (fullShare, (fullShare, (fullShare, (fullShare, (fullShare, (fullShare, (fullShare, tt))))))))))))))) (n, (ref-input-starts γ-input-starts input-starts, (ref-input-rows γ-input-rows input-rows, (ref-input-values γ-input-values input-values, (18446744073709551615, (order, (ref-list γ-list «list», (stop, (ref-permutation δ2-8 permutation, (ref-firsts δ2-9 firsts, (ref-starts δ2-10 starts, (ref-groups δ2-11 groups, (ref-tasks δ2-12 tasks, (ref-top δ2-13 top, (ref-words δ2-14 words, (ref-floats δ2-15 floats, (ref-rows δ2-16 rows, (ref-updates l20 δ2-17 updates, (ref-values δ2-18 values, tt))))))))))))))))))) (vint w64 n ∷ [], (sliceVal (b-input-starts, o-input-starts) (length input-starts) ∷ [], (sliceVal (b-input-rows, o-input-rows) (length input-rows) ∷ [], (sliceVal (b-input-values, o-input-values) (length input-values) ∷ [], (vint w64 18446744073709551615 ∷ [], (m-order ∷ [], (sliceVal (b-list, o-list) (length «list») ∷ [], (m-stop ∷ [], (sliceVal (b-permutation, o-permutation) (length permutation) ∷ [], (sliceVal (b-firsts, o-firsts) (length firsts) ∷ [], (sliceVal (b-starts, o-starts) (length starts) ∷ [], (sliceVal (b-groups, o-groups) (length groups) ∷ [], (sliceVal (b-tasks, o-tasks) (length tasks) ∷ [], (sliceVal (b-top, o-top) (length top) ∷ [], (sliceVal (b-words, o-words) (length words) ∷ [], (sliceVal (b-floats, o-floats) (length floats) ∷ [], (sliceVal (b-rows, o-rows) (length rows) ∷ [], (sliceVal (l20, 0) (length updates) ∷ [], (sliceVal (b-values, o-values) (length values) ∷ [], tt)))))))))))))))))))) (C-factor 𝓤 H A mem run .pre (((κ-input-starts, (κ-input-rows, (κ-input-values, (κ-list, (ν2-8 ∷ [], (ν2-9 ∷ [], (ν2-10 ∷ [], (ν2-11 ∷ [], (ν2-12 ∷ [], (ν2-13 ∷ [], (ν2-14 ∷ [], (ν2-15 ∷ [], (ν2-16 ∷ [], (ν2-17 ∷ [], (ν2-18 ∷ [], tt))))))))))))))), (q-input-starts, (q-input-rows, (q-input-values, (q-list, (fullShare, (fullShare, (fullShare, (fullShare, (fullShare, (fullShare, (fullShare, (fullShare, (fullShare, (fullShare, (fullShare, tt))))))))))))))), tt, (n, (ref-input-starts γ-input-starts input-starts, (ref-input-rows γ-input-rows input-rows, (ref-input-values γ-input-values input-values, (18446744073709551615, (order, (ref-list γ-list «list», (stop, (ref-permutation δ2-8 permutation, (ref-firsts δ2-9 firsts, (ref-starts δ2-10 starts, (ref-groups δ2-11 groups, (ref-tasks δ2-12 tasks, (ref-top δ2-13 top, (ref-words δ2-14 words, (ref-floats δ2-15 floats, (ref-rows δ2-16 rows, (ref-updates l20 δ2-17 updates, (ref-values δ2-18 values, tt))))))))))))))))))), (vint w64 n ∷ [], (sliceVal (b-input-starts, o-input-starts) (length input-starts) ∷ [], (sliceVal (b-input-rows, o-input-rows) (length input-rows) ∷ [], (sliceVal (b-input-values, o-input-values) (length input-values) ∷ [], (vint w64 18446744073709551615 ∷ [], (m-order ∷ [], (sliceVal (b-list, o-list) (length «list») ∷ [], (m-stop ∷ [], (sliceVal (b-permutation, o-permutation) (length permutation) ∷ [], (sliceVal (b-firsts, o-firsts) (length firsts) ∷ [], (sliceVal (b-starts, o-starts) (length starts) ∷ [], (sliceVal (b-groups, o-groups) (length groups) ∷ [], (sliceVal (b-tasks, o-tasks) (length tasks) ∷ [], (sliceVal (b-top, o-top) (length top) ∷ [], (sliceVal (b-words, o-words) (length words) ∷ [], (sliceVal (b-floats, o-floats) (length floats) ∷ [], (sliceVal (b-rows, o-rows) (length rows) ∷ [], (sliceVal (l20, 0) (length updates) ∷ [], (sliceVal (b-values, o-values) (length values) ∷ [], tt)))))))))))))))))))), tt))
+    asked2 : (u1 : Update) (r1 : Val) (is1 : Is T-Update.the-row u1 (r1 ∷ [])) (d1 : u1 ≡ noUpdate) (updates : List Update) (made-updates : updates ≡ replicate 16384 u1) (size-updates : length updates ≡ 16384) (l20 : ℕ) (ν2-8 : ℕ) (δ2-8 : GName) (ν2-9 : ℕ) (δ2-9 : GName) (ν2-10 : ℕ) (δ2-10 : GName) (ν2-11 : ℕ) (δ2-11 : GName) (ν2-12 : ℕ) (δ2-12 : GName) (ν2-13 : ℕ) (δ2-13 : GName) (ν2-14 : ℕ) (δ2-14 : GName) (ν2-15 : ℕ) (δ2-15 : GName) (ν2-16 : ℕ) (δ2-16 : GName) (ν2-17 : ℕ) (δ2-17 : GName) (ν2-18 : ℕ) (δ2-18 : GName) → ent 𝓤 (onEntry 𝓤 H A f-factor.signature (κ-input-starts, (κ-input-rows, (κ-input-values, (κ-list, (ν2-8 ∷ [], (ν2-9 ∷ [], (ν2-10 ∷ [], (ν2-11 ∷ [], (ν2-12 ∷ [], (ν2-13 ∷ [], (ν2-14 ∷ [], (ν2-15 ∷ [], (ν2-16 ∷ [], (ν2-17 ∷ [], (ν2-18 ∷ [], tt))))))))))))))) (q-input-starts, (q-input-rows, (q-input-values, (q-list, (fullShare, (fullShare, (fullShare, (fullShare, (fullShare, (fullShare, (fullShare, (fullShare, (fullShare, (fullShare, (fullShare, tt))))))))))))))) (n, (ref-input-starts γ-input-starts input-starts, (ref-input-rows γ-input-rows input-rows, (ref-input-values γ-input-values input-values, (18446744073709551615, (order, (ref-list γ-list «list», (stop, (ref-permutation δ2-8 permutation, (ref-firsts δ2-9 firsts, (ref-starts δ2-10 starts, (ref-groups δ2-11 groups, (ref-tasks δ2-12 tasks, (ref-top δ2-13 top, (ref-words δ2-14 words, (ref-floats δ2-15 floats, (ref-rows δ2-16 rows, (ref-updates l20 δ2-17 updates, (ref-values δ2-18 values, tt))))))))))))))))))) (vint w64 n ∷ [], (s-input-starts ∷ [], (s-input-rows ∷ [], (s-input-values ∷ [], (vint w64 18446744073709551615 ∷ [], (m-order ∷ [], (s-list ∷ [], (m-stop ∷ [], (s-permutation ∷ [], (s-firsts ∷ [], (s-starts ∷ [], (s-groups ∷ [], (s-tasks ∷ [], (s-top ∷ [], (s-words ∷ [], (s-floats ∷ [], (s-rows ∷ [], (sliceVal (l20, 0) (length updates) ∷ [], (s-values ∷ [], tt)))))))))))))))))))) (C-factor 𝓤 H A mem run .pre (((κ-input-starts, (κ-input-rows, (κ-input-values, (κ-list, (ν2-8 ∷ [], (ν2-9 ∷ [], (ν2-10 ∷ [], (ν2-11 ∷ [], (ν2-12 ∷ [], (ν2-13 ∷ [], (ν2-14 ∷ [], (ν2-15 ∷ [], (ν2-16 ∷ [], (ν2-17 ∷ [], (ν2-18 ∷ [], tt))))))))))))))), (q-input-starts, (q-input-rows, (q-input-values, (q-list, (fullShare, (fullShare, (fullShare, (fullShare, (fullShare, (fullShare, (fullShare, (fullShare, (fullShare, (fullShare, (fullShare, tt))))))))))))))), tt, (n, (ref-input-starts γ-input-starts input-starts, (ref-input-rows γ-input-rows input-rows, (ref-input-values γ-input-values input-values, (18446744073709551615, (order, (ref-list γ-list «list», (stop, (ref-permutation δ2-8 permutation, (ref-firsts δ2-9 firsts, (ref-starts δ2-10 starts, (ref-groups δ2-11 groups, (ref-tasks δ2-12 tasks, (ref-top δ2-13 top, (ref-words δ2-14 words, (ref-floats δ2-15 floats, (ref-rows δ2-16 rows, (ref-updates l20 δ2-17 updates, (ref-values δ2-18 values, tt))))))))))))))))))), (vint w64 n ∷ [], (s-input-starts ∷ [], (s-input-rows ∷ [], (s-input-values ∷ [], (vint w64 18446744073709551615 ∷ [], (m-order ∷ [], (s-list ∷ [], (m-stop ∷ [], (s-permutation ∷ [], (s-firsts ∷ [], (s-starts ∷ [], (s-groups ∷ [], (s-tasks ∷ [], (s-top ∷ [], (s-words ∷ [], (s-floats ∷ [], (s-rows ∷ [], (sliceVal (l20, 0) (length updates) ∷ [], (s-values ∷ [], tt)))))))))))))))))))), tt))
     asked2 u1 r1 is1 d1 updates made-updates size-updates l20 ν2-8 δ2-8 ν2-9 δ2-9 ν2-10 δ2-10 ν2-11 δ2-11 ν2-12 δ2-12 ν2-13 δ2-13 ν2-14 δ2-14 ν2-15 δ2-15 ν2-16 δ2-16 ν2-17 δ2-17 ν2-18 δ2-18 =
-        qed W ((‵ (flft (κ-input-starts) q-input-starts) ⊛ ‵ (flft (κ-input-rows) q-input-rows) ⊛ ‵ (flft (κ-input-values) q-input-values) ⊛ ‵ (flft (κ-list) q-list) ⊛ ‵ (flft (ν2-8 ∷ []) fullShare) ⊛ ‵ (flft (ν2-9 ∷ []) fullShare) ⊛ ‵ (flft (ν2-10 ∷ []) fullShare) ⊛ ‵ (flft (ν2-11 ∷ []) fullShare) ⊛ ‵ (flft (ν2-12 ∷ []) fullShare) ⊛ ‵ (flft (ν2-13 ∷ []) fullShare) ⊛ ‵ (flft (ν2-14 ∷ []) fullShare) ⊛ ‵ (flft (ν2-15 ∷ []) fullShare) ⊛ ‵ (flft (ν2-16 ∷ []) fullShare) ⊛ ‵ (flft (ν2-17 ∷ []) fullShare) ⊛ ‵ (flft (ν2-18 ∷ []) fullShare) ⊛ ‵ ftrue) ∷ ‵ (owns (usize ∷ ShrSlice (named 0) (κ-input-starts) usize ∷ ShrSlice (named 1) (κ-input-rows) usize ∷ ShrSlice (named 2) (κ-input-values) f64 ∷ usize ∷ T-Order.the-row ∷ ShrSlice (named 3) (κ-list) usize ∷ T-Stop.the-row ∷ MutSlice (named 4) (ν2-8 ∷ []) usize ∷ MutSlice (named 5) (ν2-9 ∷ []) usize ∷ MutSlice (named 6) (ν2-10 ∷ []) usize ∷ MutSlice (named 7) (ν2-11 ∷ []) usize ∷ MutSlice (named 8) (ν2-12 ∷ []) usize ∷ MutSlice (named 9) (ν2-13 ∷ []) usize ∷ MutSlice (named 10) (ν2-14 ∷ []) usize ∷ MutSlice (named 11) (ν2-15 ∷ []) f64 ∷ MutSlice (named 12) (ν2-16 ∷ []) usize ∷ MutSlice (named 13) (ν2-17 ∷ []) T-Update.the-row ∷ MutSlice (named 14) (ν2-18 ∷ []) f64 ∷ []) (n, (ref-input-starts γ-input-starts input-starts, (ref-input-rows γ-input-rows input-rows, (ref-input-values γ-input-values input-values, (18446744073709551615, (order, (ref-list γ-list «list», (stop, (ref-permutation δ2-8 permutation, (ref-firsts δ2-9 firsts, (ref-starts δ2-10 starts, (ref-groups δ2-11 groups, (ref-tasks δ2-12 tasks, (ref-top δ2-13 top, (ref-words δ2-14 words, (ref-floats δ2-15 floats, (ref-rows δ2-16 rows, (ref-updates l20 δ2-17 updates, (ref-values δ2-18 values, tt))))))))))))))))))) (vint w64 n ∷ [], (sliceVal (b-input-starts, o-input-starts) (length input-starts) ∷ [], (sliceVal (b-input-rows, o-input-rows) (length input-rows) ∷ [], (sliceVal (b-input-values, o-input-values) (length input-values) ∷ [], (vint w64 18446744073709551615 ∷ [], (m-order ∷ [], (sliceVal (b-list, o-list) (length «list») ∷ [], (m-stop ∷ [], (sliceVal (b-permutation, o-permutation) (length permutation) ∷ [], (sliceVal (b-firsts, o-firsts) (length firsts) ∷ [], (sliceVal (b-starts, o-starts) (length starts) ∷ [], (sliceVal (b-groups, o-groups) (length groups) ∷ [], (sliceVal (b-tasks, o-tasks) (length tasks) ∷ [], (sliceVal (b-top, o-top) (length top) ∷ [], (sliceVal (b-words, o-words) (length words) ∷ [], (sliceVal (b-floats, o-floats) (length floats) ∷ [], (sliceVal (b-rows, o-rows) (length rows) ∷ [], (sliceVal (l20, 0) (length updates) ∷ [], (sliceVal (b-values, o-values) (length values) ∷ [], tt)))))))))))))))))))) ∷ []) ∵ w-join ! $ w-frame ! $ done !
+        qed W ((‵ (flft (κ-input-starts) q-input-starts) ⊛ ‵ (flft (κ-input-rows) q-input-rows) ⊛ ‵ (flft (κ-input-values) q-input-values) ⊛ ‵ (flft (κ-list) q-list) ⊛ ‵ (flft (ν2-8 ∷ []) fullShare) ⊛ ‵ (flft (ν2-9 ∷ []) fullShare) ⊛ ‵ (flft (ν2-10 ∷ []) fullShare) ⊛ ‵ (flft (ν2-11 ∷ []) fullShare) ⊛ ‵ (flft (ν2-12 ∷ []) fullShare) ⊛ ‵ (flft (ν2-13 ∷ []) fullShare) ⊛ ‵ (flft (ν2-14 ∷ []) fullShare) ⊛ ‵ (flft (ν2-15 ∷ []) fullShare) ⊛ ‵ (flft (ν2-16 ∷ []) fullShare) ⊛ ‵ (flft (ν2-17 ∷ []) fullShare) ⊛ ‵ (flft (ν2-18 ∷ []) fullShare) ⊛ ‵ ftrue) ∷ ‵ (owns (usize ∷ ShrSlice (named 0) (κ-input-starts) usize ∷ ShrSlice (named 1) (κ-input-rows) usize ∷ ShrSlice (named 2) (κ-input-values) f64 ∷ usize ∷ T-Order.the-row ∷ ShrSlice (named 3) (κ-list) usize ∷ T-Stop.the-row ∷ MutSlice (named 4) (ν2-8 ∷ []) usize ∷ MutSlice (named 5) (ν2-9 ∷ []) usize ∷ MutSlice (named 6) (ν2-10 ∷ []) usize ∷ MutSlice (named 7) (ν2-11 ∷ []) usize ∷ MutSlice (named 8) (ν2-12 ∷ []) usize ∷ MutSlice (named 9) (ν2-13 ∷ []) usize ∷ MutSlice (named 10) (ν2-14 ∷ []) usize ∷ MutSlice (named 11) (ν2-15 ∷ []) f64 ∷ MutSlice (named 12) (ν2-16 ∷ []) usize ∷ MutSlice (named 13) (ν2-17 ∷ []) T-Update.the-row ∷ MutSlice (named 14) (ν2-18 ∷ []) f64 ∷ []) (n, (ref-input-starts γ-input-starts input-starts, (ref-input-rows γ-input-rows input-rows, (ref-input-values γ-input-values input-values, (18446744073709551615, (order, (ref-list γ-list «list», (stop, (ref-permutation δ2-8 permutation, (ref-firsts δ2-9 firsts, (ref-starts δ2-10 starts, (ref-groups δ2-11 groups, (ref-tasks δ2-12 tasks, (ref-top δ2-13 top, (ref-words δ2-14 words, (ref-floats δ2-15 floats, (ref-rows δ2-16 rows, (ref-updates l20 δ2-17 updates, (ref-values δ2-18 values, tt))))))))))))))))))) (vint w64 n ∷ [], (s-input-starts ∷ [], (s-input-rows ∷ [], (s-input-values ∷ [], (vint w64 18446744073709551615 ∷ [], (m-order ∷ [], (s-list ∷ [], (m-stop ∷ [], (s-permutation ∷ [], (s-firsts ∷ [], (s-starts ∷ [], (s-groups ∷ [], (s-tasks ∷ [], (s-top ∷ [], (s-words ∷ [], (s-floats ∷ [], (s-rows ∷ [], (sliceVal (l20, 0) (length updates) ∷ [], (s-values ∷ [], tt)))))))))))))))))))) ∷ []) ∵ w-join ! $ w-frame ! $ done !
 
-    asked3 : (u1 : Update) (r1 : Val) (is1 : Is T-Update.the-row u1 (r1 ∷ [])) (d1 : u1 ≡ noUpdate) (updates : List Update) (made-updates : updates ≡ replicate 16384 u1) (size-updates : length updates ≡ 16384) (u2 : Outcome) (r2 : Val) (is2 : Is T-Outcome.the-row u2 (r2 ∷ [])) (c2-permutation : List ℕ) (c2-firsts : List ℕ) (c2-starts : List ℕ) (c2-groups : List ℕ) (c2-tasks : List ℕ) (c2-top : List ℕ) (c2-words : List ℕ) (c2-floats : List Float) (c2-rows : List ℕ) (c2-updates : List Update) (c2-values : List Float) (d2 : FactorSettles (factor (matrix n (input-starts) (input-rows) (input-values)) 18446744073709551615 order («list») stop (lentAll (length (permutation)) (length (firsts)) (length (starts)) (length (groups)) (length (tasks)) (length (top)) (length (words)) (length (floats)) (length (rows)) (length (updates)) (length (values)))) u2 (c2-permutation) (c2-firsts) (c2-starts) (c2-groups) (c2-tasks) (c2-top) (c2-words) (c2-floats) (c2-rows) (c2-updates) (c2-values)) (same2-permutation : length c2-permutation ≡ length permutation) (same2-firsts : length c2-firsts ≡ length firsts) (same2-starts : length c2-starts ≡ length starts) (same2-groups : length c2-groups ≡ length groups) (same2-tasks : length c2-tasks ≡ length tasks) (same2-top : length c2-top ≡ length top) (same2-words : length c2-words ≡ length words) (same2-floats : length c2-floats ≡ length floats) (same2-rows : length c2-rows ≡ length rows) (same2-updates : length c2-updates ≡ length updates) (same2-values : length c2-values ≡ length values) (ν3-1 : ℕ) (δ3-1 : GName) (ν3-2 : ℕ) (δ3-2 : GName) (ν3-3 : ℕ) (δ3-3 : GName) (ν3-4 : ℕ) (δ3-4 : GName) (ν3-5 : ℕ) (δ3-5 : GName) (ν3-6 : ℕ) (δ3-6 : GName) (ν3-7 : ℕ) (δ3-7 : GName) (ν3-8 : ℕ) (δ3-8 : GName) → ent 𝓤 (onEntry 𝓤 H A f-solve-and-print.signature (ν3-1 ∷ [], (ν3-2 ∷ [], (ν3-3 ∷ [], (ν3-4 ∷ [], (ν3-5 ∷ [], (ν3-6 ∷ [], (ν3-7 ∷ [], (ν3-8 ∷ [], tt)))))))) (fullShare, (fullShare, (fullShare, (fullShare, (fullShare, (fullShare, (fullShare, (fullShare, tt)))))))) (u2, (ref-permutation δ3-1 c2-permutation, (ref-firsts δ3-2 c2-firsts, (ref-starts δ3-3 c2-starts, (ref-rows δ3-4 c2-rows, (ref-values δ3-5 c2-values, (ref-words δ3-6 c2-words, (ref-floats δ3-7 c2-floats, (ref-b δ3-8 b, tt))))))))) (r2 ∷ [], (sliceVal (b-permutation, o-permutation) (length c2-permutation) ∷ [], (sliceVal (b-firsts, o-firsts) (length c2-firsts) ∷ [], (sliceVal (b-starts, o-starts) (length c2-starts) ∷ [], (sliceVal (b-rows, o-rows) (length c2-rows) ∷ [], (sliceVal (b-values, o-values) (length c2-values) ∷ [], (sliceVal (b-words, o-words) (length c2-words) ∷ [], (sliceVal (b-floats, o-floats) (length c2-floats) ∷ [], (sliceVal (b-b, o-b) (length b) ∷ [], tt)))))))))) (C-solve-and-print 𝓤 H A mem run .pre (((ν3-1 ∷ [], (ν3-2 ∷ [], (ν3-3 ∷ [], (ν3-4 ∷ [], (ν3-5 ∷ [], (ν3-6 ∷ [], (ν3-7 ∷ [], (ν3-8 ∷ [], tt)))))))), (fullShare, (fullShare, (fullShare, (fullShare, (fullShare, (fullShare, (fullShare, (fullShare, tt)))))))), tt, (u2, (ref-permutation δ3-1 c2-permutation, (ref-firsts δ3-2 c2-firsts, (ref-starts δ3-3 c2-starts, (ref-rows δ3-4 c2-rows, (ref-values δ3-5 c2-values, (ref-words δ3-6 c2-words, (ref-floats δ3-7 c2-floats, (ref-b δ3-8 b, tt))))))))), (r2 ∷ [], (sliceVal (b-permutation, o-permutation) (length c2-permutation) ∷ [], (sliceVal (b-firsts, o-firsts) (length c2-firsts) ∷ [], (sliceVal (b-starts, o-starts) (length c2-starts) ∷ [], (sliceVal (b-rows, o-rows) (length c2-rows) ∷ [], (sliceVal (b-values, o-values) (length c2-values) ∷ [], (sliceVal (b-words, o-words) (length c2-words) ∷ [], (sliceVal (b-floats, o-floats) (length c2-floats) ∷ [], (sliceVal (b-b, o-b) (length b) ∷ [], tt)))))))))), tt))
+    asked3 : (u1 : Update) (r1 : Val) (is1 : Is T-Update.the-row u1 (r1 ∷ [])) (d1 : u1 ≡ noUpdate) (updates : List Update) (made-updates : updates ≡ replicate 16384 u1) (size-updates : length updates ≡ 16384) (u2 : Outcome) (r2 : Val) (is2 : Is T-Outcome.the-row u2 (r2 ∷ [])) (c2-permutation : List ℕ) (c2-firsts : List ℕ) (c2-starts : List ℕ) (c2-groups : List ℕ) (c2-tasks : List ℕ) (c2-top : List ℕ) (c2-words : List ℕ) (c2-floats : List Float) (c2-rows : List ℕ) (c2-updates : List Update) (c2-values : List Float) (d2 : FactorSettles (factor (matrix n (input-starts) (input-rows) (input-values)) 18446744073709551615 order («list») stop (lentAll (length (permutation)) (length (firsts)) (length (starts)) (length (groups)) (length (tasks)) (length (top)) (length (words)) (length (floats)) (length (rows)) (length (updates)) (length (values)))) u2 (c2-permutation) (c2-firsts) (c2-starts) (c2-groups) (c2-tasks) (c2-top) (c2-words) (c2-floats) (c2-rows) (c2-updates) (c2-values)) (same2-permutation : length c2-permutation ≡ length permutation) (same2-firsts : length c2-firsts ≡ length firsts) (same2-starts : length c2-starts ≡ length starts) (same2-groups : length c2-groups ≡ length groups) (same2-tasks : length c2-tasks ≡ length tasks) (same2-top : length c2-top ≡ length top) (same2-words : length c2-words ≡ length words) (same2-floats : length c2-floats ≡ length floats) (same2-rows : length c2-rows ≡ length rows) (same2-updates : length c2-updates ≡ length updates) (same2-values : length c2-values ≡ length values) (ν3-1 : ℕ) (δ3-1 : GName) (ν3-2 : ℕ) (δ3-2 : GName) (ν3-3 : ℕ) (δ3-3 : GName) (ν3-4 : ℕ) (δ3-4 : GName) (ν3-5 : ℕ) (δ3-5 : GName) (ν3-6 : ℕ) (δ3-6 : GName) (ν3-7 : ℕ) (δ3-7 : GName) (ν3-8 : ℕ) (δ3-8 : GName) → ent 𝓤 (onEntry 𝓤 H A f-solve-and-print.signature (ν3-1 ∷ [], (ν3-2 ∷ [], (ν3-3 ∷ [], (ν3-4 ∷ [], (ν3-5 ∷ [], (ν3-6 ∷ [], (ν3-7 ∷ [], (ν3-8 ∷ [], tt)))))))) (fullShare, (fullShare, (fullShare, (fullShare, (fullShare, (fullShare, (fullShare, (fullShare, tt)))))))) (u2, (ref-permutation δ3-1 c2-permutation, (ref-firsts δ3-2 c2-firsts, (ref-starts δ3-3 c2-starts, (ref-rows δ3-4 c2-rows, (ref-values δ3-5 c2-values, (ref-words δ3-6 c2-words, (ref-floats δ3-7 c2-floats, (ref-b δ3-8 b, tt))))))))) (r2 ∷ [], (s-permutation ∷ [], (s-firsts ∷ [], (s-starts ∷ [], (s-rows ∷ [], (s-values ∷ [], (s-words ∷ [], (s-floats ∷ [], (s-b ∷ [], tt)))))))))) (C-solve-and-print 𝓤 H A mem run .pre (((ν3-1 ∷ [], (ν3-2 ∷ [], (ν3-3 ∷ [], (ν3-4 ∷ [], (ν3-5 ∷ [], (ν3-6 ∷ [], (ν3-7 ∷ [], (ν3-8 ∷ [], tt)))))))), (fullShare, (fullShare, (fullShare, (fullShare, (fullShare, (fullShare, (fullShare, (fullShare, tt)))))))), tt, (u2, (ref-permutation δ3-1 c2-permutation, (ref-firsts δ3-2 c2-firsts, (ref-starts δ3-3 c2-starts, (ref-rows δ3-4 c2-rows, (ref-values δ3-5 c2-values, (ref-words δ3-6 c2-words, (ref-floats δ3-7 c2-floats, (ref-b δ3-8 b, tt))))))))), (r2 ∷ [], (s-permutation ∷ [], (s-firsts ∷ [], (s-starts ∷ [], (s-rows ∷ [], (s-values ∷ [], (s-words ∷ [], (s-floats ∷ [], (s-b ∷ [], tt)))))))))), tt))
     asked3 u1 r1 is1 d1 updates made-updates size-updates u2 r2 is2 c2-permutation c2-firsts c2-starts c2-groups c2-tasks c2-top c2-words c2-floats c2-rows c2-updates c2-values d2 same2-permutation same2-firsts same2-starts same2-groups same2-tasks same2-top same2-words same2-floats same2-rows same2-updates same2-values ν3-1 δ3-1 ν3-2 δ3-2 ν3-3 δ3-3 ν3-4 δ3-4 ν3-5 δ3-5 ν3-6 δ3-6 ν3-7 δ3-7 ν3-8 δ3-8 =
-        qed W ((‵ (flft (ν3-1 ∷ []) fullShare) ⊛ ‵ (flft (ν3-2 ∷ []) fullShare) ⊛ ‵ (flft (ν3-3 ∷ []) fullShare) ⊛ ‵ (flft (ν3-4 ∷ []) fullShare) ⊛ ‵ (flft (ν3-5 ∷ []) fullShare) ⊛ ‵ (flft (ν3-6 ∷ []) fullShare) ⊛ ‵ (flft (ν3-7 ∷ []) fullShare) ⊛ ‵ (flft (ν3-8 ∷ []) fullShare) ⊛ ‵ ftrue) ∷ ‵ (owns (T-Outcome.the-row ∷ ShrSlice (named 0) (ν3-1 ∷ []) usize ∷ ShrSlice (named 1) (ν3-2 ∷ []) usize ∷ ShrSlice (named 2) (ν3-3 ∷ []) usize ∷ ShrSlice (named 3) (ν3-4 ∷ []) usize ∷ ShrSlice (named 4) (ν3-5 ∷ []) f64 ∷ MutSlice (named 5) (ν3-6 ∷ []) usize ∷ MutSlice (named 6) (ν3-7 ∷ []) f64 ∷ MutSlice (named 7) (ν3-8 ∷ []) f64 ∷ []) (u2, (ref-permutation δ3-1 c2-permutation, (ref-firsts δ3-2 c2-firsts, (ref-starts δ3-3 c2-starts, (ref-rows δ3-4 c2-rows, (ref-values δ3-5 c2-values, (ref-words δ3-6 c2-words, (ref-floats δ3-7 c2-floats, (ref-b δ3-8 b, tt))))))))) (r2 ∷ [], (sliceVal (b-permutation, o-permutation) (length c2-permutation) ∷ [], (sliceVal (b-firsts, o-firsts) (length c2-firsts) ∷ [], (sliceVal (b-starts, o-starts) (length c2-starts) ∷ [], (sliceVal (b-rows, o-rows) (length c2-rows) ∷ [], (sliceVal (b-values, o-values) (length c2-values) ∷ [], (sliceVal (b-words, o-words) (length c2-words) ∷ [], (sliceVal (b-floats, o-floats) (length c2-floats) ∷ [], (sliceVal (b-b, o-b) (length b) ∷ [], tt)))))))))) ∷ []) ∵ w-join ! $ w-frame ! $ done !
+        qed W ((‵ (flft (ν3-1 ∷ []) fullShare) ⊛ ‵ (flft (ν3-2 ∷ []) fullShare) ⊛ ‵ (flft (ν3-3 ∷ []) fullShare) ⊛ ‵ (flft (ν3-4 ∷ []) fullShare) ⊛ ‵ (flft (ν3-5 ∷ []) fullShare) ⊛ ‵ (flft (ν3-6 ∷ []) fullShare) ⊛ ‵ (flft (ν3-7 ∷ []) fullShare) ⊛ ‵ (flft (ν3-8 ∷ []) fullShare) ⊛ ‵ ftrue) ∷ ‵ (owns (T-Outcome.the-row ∷ ShrSlice (named 0) (ν3-1 ∷ []) usize ∷ ShrSlice (named 1) (ν3-2 ∷ []) usize ∷ ShrSlice (named 2) (ν3-3 ∷ []) usize ∷ ShrSlice (named 3) (ν3-4 ∷ []) usize ∷ ShrSlice (named 4) (ν3-5 ∷ []) f64 ∷ MutSlice (named 5) (ν3-6 ∷ []) usize ∷ MutSlice (named 6) (ν3-7 ∷ []) f64 ∷ MutSlice (named 7) (ν3-8 ∷ []) f64 ∷ []) (u2, (ref-permutation δ3-1 c2-permutation, (ref-firsts δ3-2 c2-firsts, (ref-starts δ3-3 c2-starts, (ref-rows δ3-4 c2-rows, (ref-values δ3-5 c2-values, (ref-words δ3-6 c2-words, (ref-floats δ3-7 c2-floats, (ref-b δ3-8 b, tt))))))))) (r2 ∷ [], (s-permutation ∷ [], (s-firsts ∷ [], (s-starts ∷ [], (s-rows ∷ [], (s-values ∷ [], (s-words ∷ [], (s-floats ∷ [], (s-b ∷ [], tt)))))))))) ∷ []) ∵ w-join ! $ w-frame ! $ done !
 
     module _ (l0 l1 l2 l3 l4 l5 l6 l7 l8 l9 l10 l11 l12 l13 l14 l15 l16 l17 l18 l19 l20 l21 l22 l23 l24 l25 l26 l27 l28 l29 l30 l31 l32 l33 l34 l35 l36 l37 l38 l39 l40 l41 l42 l43 l44 l45 l46 l47 l48 l49 l50 l51 l52 l53 l54 l55 l56 l57 l58 l59 l60 : ℕ) where
       abbrev En : Env 𝓤 H
@@ -448,55 +449,46 @@ module _ {M : Type 1} (𝓤 : URA M) (H : Heap 𝓤) (A : Atoms 𝓤) (W : Given
           w-move ! (54 ∷ []) $ w-unpack ! (‵ (froom ty45 l45 0) ∷ ‵ (froom ty46 l46 0) ∷ ‵ (froom ty47 l47 0) ∷ ‵ (froom ty48 l48 0) ∷ ‵ (froom ty49 l49 0) ∷ ‵ (froom ty50 l50 0) ∷ ‵ (froom ty51 l51 0) ∷ ‵ (froom ty52 l52 0) ∷ ‵ (froom ty53 l53 0) ∷ ‵ (froom ty54 l54 0) ∷ ‵ (froom ty55 l55 0) ∷ ‵ (froom ty56 l56 0) ∷ ‵ (froom ty57 l57 0) ∷ ‵ (froom ty58 l58 0) ∷ ‵ (froom ty59 l59 0) ∷ ‵ (froom ty60 l60 0) ∷ []) $
           w-move ! (16 ∷ 17 ∷ 18 ∷ 19 ∷ 23 ∷ 24 ∷ 25 ∷ 31 ∷ 32 ∷ 33 ∷ 34 ∷ 38 ∷ 39 ∷ 40 ∷ 48 ∷ 49 ∷ 50 ∷ 51 ∷ 52 ∷ 53 ∷ 57 ∷ 58 ∷ 59 ∷ 65 ∷ 66 ∷ 69 ∷ 70 ∷ []) $ w-pack ! (‵ (ShrSlice (named 0) κ-input-starts usize .own (ref-input-starts γ-input-starts input-starts) (sliceVal (b-input-starts, o-input-starts) (length input-starts) ∷ [])) ∷ ‵ (ShrSlice (named 1) κ-input-rows usize .own (ref-input-rows γ-input-rows input-rows) (sliceVal (b-input-rows, o-input-rows) (length input-rows) ∷ [])) ∷ ‵ (ShrSlice (named 2) κ-input-values f64 .own (ref-input-values γ-input-values input-values) (sliceVal (b-input-values, o-input-values) (length input-values) ∷ [])) ∷ ‵ (ShrSlice (named 3) κ-list usize .own (ref-list γ-list «list») (sliceVal (b-list, o-list) (length «list») ∷ [])) ∷ ‵ (MutSlice (named 7) κ-groups usize .own (ref-groups γ-groups c2-groups) (sliceVal (b-groups, o-groups) (length groups) ∷ [])) ∷ ‵ (MutSlice (named 8) κ-tasks usize .own (ref-tasks γ-tasks c2-tasks) (sliceVal (b-tasks, o-tasks) (length tasks) ∷ [])) ∷ ‵ (MutSlice (named 9) κ-top usize .own (ref-top γ-top c2-top) (sliceVal (b-top, o-top) (length top) ∷ [])) ∷ ‵ (flft κ-input-starts q-input-starts) ∷ ‵ (flft κ-input-rows q-input-rows) ∷ ‵ (flft κ-input-values q-input-values) ∷ ‵ (flft κ-list q-list) ∷ ‵ (flft κ-groups q-groups) ∷ ‵ (flft κ-tasks q-tasks) ∷ ‵ (flft κ-top q-top) ∷ ‵ (fat fullShare ty2 l2 0 s-input-starts) ∷ ‵ (fat fullShare ty3 l3 0 s-input-rows) ∷ ‵ (fat fullShare ty4 l4 0 s-input-values) ∷ ‵ (fat fullShare ty5 l5 0 m-order) ∷ ‵ (fat fullShare ty6 l6 0 s-list) ∷ ‵ (fat fullShare ty7 l7 0 m-stop) ∷ ‵ (fat fullShare ty11 l11 0 s-groups) ∷ ‵ (fat fullShare ty12 l12 0 s-tasks) ∷ ‵ (fat fullShare ty13 l13 0 s-top) ∷ ‵ (fat fullShare ty19 l19 0 r1) ∷ ‵ (Lies T-Update.the-row 16384 l20 0 c2-updates) ∷ raw (Packed 𝓤 H A spare2) ∷ raw (Packed 𝓤 H A dying) ∷ []) $
           w-assigns ! (w-addr ! (w-from ! (w-fld ! refl (w-hop ! (w-look-in ! 35 (w-sub ! 0 refl (w-whole !))) (w-stop !))))) (w-from ! (w-stop !)) (w-init ! 1 refl (tt, tt)) $ w-assigns ! (w-agg ! (w-and-then ! (w-load ! (w-from ! (w-stop !)) (w-look ! 1 refl)) (w-and-then ! (w-load ! (w-from ! (w-fld ! refl (w-stop !))) (w-look-in ! 35 (w-sub ! 1 refl (w-whole !)))) (w-no-more !)))) (w-from ! (w-stop !)) (w-init ! 2 refl (tt, (tt, (record { fits = room-permutation .0 }, tt)))) $
-          w-rewrite ! 2 (λ (m : ℕ). ‵ (fat fullShare ty46 l46 0 (sliceVal (b-permutation, o-permutation) m))) (sym same2-permutation) refl $
           w-assigns ! (w-addr ! (w-from ! (w-fld ! refl (w-hop ! (w-look-in ! 36 (w-sub ! 0 refl (w-whole !))) (w-stop !))))) (w-from ! (w-stop !)) (w-init ! 3 refl (tt, tt)) $ w-assigns ! (w-agg ! (w-and-then ! (w-load ! (w-from ! (w-stop !)) (w-look ! 3 refl)) (w-and-then ! (w-load ! (w-from ! (w-fld ! refl (w-stop !))) (w-look-in ! 36 (w-sub ! 1 refl (w-whole !)))) (w-no-more !)))) (w-from ! (w-stop !)) (w-init ! 4 refl (tt, (tt, (record { fits = room-firsts .0 }, tt)))) $
-          w-rewrite ! 4 (λ (m : ℕ). ‵ (fat fullShare ty48 l48 0 (sliceVal (b-firsts, o-firsts) m))) (sym same2-firsts) refl $
           w-assigns ! (w-addr ! (w-from ! (w-fld ! refl (w-hop ! (w-look-in ! 37 (w-sub ! 0 refl (w-whole !))) (w-stop !))))) (w-from ! (w-stop !)) (w-init ! 5 refl (tt, tt)) $ w-assigns ! (w-agg ! (w-and-then ! (w-load ! (w-from ! (w-stop !)) (w-look ! 5 refl)) (w-and-then ! (w-load ! (w-from ! (w-fld ! refl (w-stop !))) (w-look-in ! 37 (w-sub ! 1 refl (w-whole !)))) (w-no-more !)))) (w-from ! (w-stop !)) (w-init ! 6 refl (tt, (tt, (record { fits = room-starts .0 }, tt)))) $
-          w-rewrite ! 6 (λ (m : ℕ). ‵ (fat fullShare ty50 l50 0 (sliceVal (b-starts, o-starts) m))) (sym same2-starts) refl $
           w-assigns ! (w-addr ! (w-from ! (w-fld ! refl (w-hop ! (w-look-in ! 40 (w-sub ! 0 refl (w-whole !))) (w-stop !))))) (w-from ! (w-stop !)) (w-init ! 7 refl (tt, tt)) $ w-assigns ! (w-agg ! (w-and-then ! (w-load ! (w-from ! (w-stop !)) (w-look ! 7 refl)) (w-and-then ! (w-load ! (w-from ! (w-fld ! refl (w-stop !))) (w-look-in ! 40 (w-sub ! 1 refl (w-whole !)))) (w-no-more !)))) (w-from ! (w-stop !)) (w-init ! 8 refl (tt, (tt, (record { fits = room-rows .0 }, tt)))) $
-          w-rewrite ! 8 (λ (m : ℕ). ‵ (fat fullShare ty52 l52 0 (sliceVal (b-rows, o-rows) m))) (sym same2-rows) refl $
           w-assigns ! (w-addr ! (w-from ! (w-fld ! refl (w-hop ! (w-look-in ! 41 (w-sub ! 0 refl (w-whole !))) (w-stop !))))) (w-from ! (w-stop !)) (w-init ! 9 refl (tt, tt)) $ w-assigns ! (w-agg ! (w-and-then ! (w-load ! (w-from ! (w-stop !)) (w-look ! 9 refl)) (w-and-then ! (w-load ! (w-from ! (w-fld ! refl (w-stop !))) (w-look-in ! 41 (w-sub ! 1 refl (w-whole !)))) (w-no-more !)))) (w-from ! (w-stop !)) (w-init ! 10 refl (tt, (tt, (record { fits = room-values .0 }, tt)))) $
-          w-rewrite ! 10 (λ (m : ℕ). ‵ (fat fullShare ty54 l54 0 (sliceVal (b-values, o-values) m))) (sym same2-values) refl $
           w-assigns ! (w-addr ! (w-from ! (w-fld ! refl (w-hop ! (w-look-in ! 38 (w-sub ! 0 refl (w-whole !))) (w-stop !))))) (w-from ! (w-stop !)) (w-init ! 11 refl (tt, tt)) $ w-assigns ! (w-agg ! (w-and-then ! (w-load ! (w-from ! (w-stop !)) (w-look ! 11 refl)) (w-and-then ! (w-load ! (w-from ! (w-fld ! refl (w-stop !))) (w-look-in ! 38 (w-sub ! 1 refl (w-whole !)))) (w-no-more !)))) (w-from ! (w-stop !)) (w-init ! 12 refl (tt, (tt, (record { fits = room-words .0 }, tt)))) $
-          w-rewrite ! 12 (λ (m : ℕ). ‵ (fat fullShare ty56 l56 0 (sliceVal (b-words, o-words) m))) (sym same2-words) refl $
           w-assigns ! (w-addr ! (w-from ! (w-fld ! refl (w-hop ! (w-look-in ! 39 (w-sub ! 0 refl (w-whole !))) (w-stop !))))) (w-from ! (w-stop !)) (w-init ! 13 refl (tt, tt)) $ w-assigns ! (w-agg ! (w-and-then ! (w-load ! (w-from ! (w-stop !)) (w-look ! 13 refl)) (w-and-then ! (w-load ! (w-from ! (w-fld ! refl (w-stop !))) (w-look-in ! 39 (w-sub ! 1 refl (w-whole !)))) (w-no-more !)))) (w-from ! (w-stop !)) (w-init ! 14 refl (tt, (tt, (record { fits = room-floats .0 }, tt)))) $
-          w-rewrite ! 14 (λ (m : ℕ). ‵ (fat fullShare ty58 l58 0 (sliceVal (b-floats, o-floats) m))) (sym same2-floats) refl $
           w-assigns ! (w-addr ! (w-from ! (w-fld ! refl (w-hop ! (w-look-in ! 42 (w-sub ! 0 refl (w-whole !))) (w-stop !))))) (w-from ! (w-stop !)) (w-init ! 15 refl (tt, tt)) $ w-assigns ! (w-agg ! (w-and-then ! (w-load ! (w-from ! (w-stop !)) (w-look ! 15 refl)) (w-and-then ! (w-load ! (w-from ! (w-fld ! refl (w-stop !))) (w-look-in ! 42 (w-sub ! 1 refl (w-whole !)))) (w-no-more !)))) (w-from ! (w-stop !)) (w-init ! 16 refl (tt, (tt, (record { fits = room-b .0 }, tt)))) $
-          w-lft-new ! tt (λ ν3-1. w-rewrite ! 18 (λ (m : ℕ). ‵ (MutSlice (named 4) κ-permutation usize .own (ref-permutation γ-permutation c2-permutation) (sliceVal (b-permutation, o-permutation) m ∷ []))) (sym same2-permutation) refl $ w-move ! (18 ∷ 26 ∷ []) $ use2 W (later (some (λ (δ : GName). ‵ (ShrSlice (named 0) (ν3-1 ∷ []) usize .own (ref-permutation δ c2-permutation) (sliceVal (b-permutation, o-permutation) (length c2-permutation) ∷ [])) ⊛ ‵ (LentShared usize κ-permutation (ν3-1 ∷ []) q-permutation γ-permutation b-permutation o-permutation c2-permutation)))) (lends-shared usize κ-permutation (ν3-1 ∷ []) q-permutation γ-permutation b-permutation o-permutation 𝓤 H A W (named 4) (named 0) c2-permutation) $ w-await ! tt $ w-pick ! (λ δ3-1. w-split ! $
-          w-lft-new ! tt (λ ν3-2. w-rewrite ! 21 (λ (m : ℕ). ‵ (MutSlice (named 5) κ-firsts usize .own (ref-firsts γ-firsts c2-firsts) (sliceVal (b-firsts, o-firsts) m ∷ []))) (sym same2-firsts) refl $ w-move ! (21 ∷ 28 ∷ []) $ use2 W (later (some (λ (δ : GName). ‵ (ShrSlice (named 1) (ν3-2 ∷ []) usize .own (ref-firsts δ c2-firsts) (sliceVal (b-firsts, o-firsts) (length c2-firsts) ∷ [])) ⊛ ‵ (LentShared usize κ-firsts (ν3-2 ∷ []) q-firsts γ-firsts b-firsts o-firsts c2-firsts)))) (lends-shared usize κ-firsts (ν3-2 ∷ []) q-firsts γ-firsts b-firsts o-firsts 𝓤 H A W (named 5) (named 1) c2-firsts) $ w-await ! tt $ w-pick ! (λ δ3-2. w-split ! $
-          w-lft-new ! tt (λ ν3-3. w-rewrite ! 24 (λ (m : ℕ). ‵ (MutSlice (named 6) κ-starts usize .own (ref-starts γ-starts c2-starts) (sliceVal (b-starts, o-starts) m ∷ []))) (sym same2-starts) refl $ w-move ! (24 ∷ 30 ∷ []) $ use2 W (later (some (λ (δ : GName). ‵ (ShrSlice (named 2) (ν3-3 ∷ []) usize .own (ref-starts δ c2-starts) (sliceVal (b-starts, o-starts) (length c2-starts) ∷ [])) ⊛ ‵ (LentShared usize κ-starts (ν3-3 ∷ []) q-starts γ-starts b-starts o-starts c2-starts)))) (lends-shared usize κ-starts (ν3-3 ∷ []) q-starts γ-starts b-starts o-starts 𝓤 H A W (named 6) (named 2) c2-starts) $ w-await ! tt $ w-pick ! (λ δ3-3. w-split ! $
-          w-lft-new ! tt (λ ν3-4. w-rewrite ! 29 (λ (m : ℕ). ‵ (MutSlice (named 12) κ-rows usize .own (ref-rows γ-rows c2-rows) (sliceVal (b-rows, o-rows) m ∷ []))) (sym same2-rows) refl $ w-move ! (29 ∷ 34 ∷ []) $ use2 W (later (some (λ (δ : GName). ‵ (ShrSlice (named 3) (ν3-4 ∷ []) usize .own (ref-rows δ c2-rows) (sliceVal (b-rows, o-rows) (length c2-rows) ∷ [])) ⊛ ‵ (LentShared usize κ-rows (ν3-4 ∷ []) q-rows γ-rows b-rows o-rows c2-rows)))) (lends-shared usize κ-rows (ν3-4 ∷ []) q-rows γ-rows b-rows o-rows 𝓤 H A W (named 12) (named 3) c2-rows) $ w-await ! tt $ w-pick ! (λ δ3-4. w-split ! $
-          w-lft-new ! tt (λ ν3-5. w-rewrite ! 32 (λ (m : ℕ). ‵ (MutSlice (named 13) κ-values f64 .own (ref-values γ-values c2-values) (sliceVal (b-values, o-values) m ∷ []))) (sym same2-values) refl $ w-move ! (32 ∷ 36 ∷ []) $ use2 W (later (some (λ (δ : GName). ‵ (ShrSlice (named 4) (ν3-5 ∷ []) f64 .own (ref-values δ c2-values) (sliceVal (b-values, o-values) (length c2-values) ∷ [])) ⊛ ‵ (LentShared f64 κ-values (ν3-5 ∷ []) q-values γ-values b-values o-values c2-values)))) (lends-shared f64 κ-values (ν3-5 ∷ []) q-values γ-values b-values o-values 𝓤 H A W (named 13) (named 4) c2-values) $ w-await ! tt $ w-pick ! (λ δ3-5. w-split ! $
-          w-lft-new ! tt (λ ν3-6. w-rewrite ! 33 (λ (m : ℕ). ‵ (MutSlice (named 10) κ-words usize .own (ref-words γ-words c2-words) (sliceVal (b-words, o-words) m ∷ []))) (sym same2-words) refl $ w-move ! (33 ∷ 36 ∷ []) $ use2 W (later (some (λ (δ : GName). ‵ (MutSlice (named 5) (ν3-6 ∷ []) usize .own (ref-words δ c2-words) (sliceVal (b-words, o-words) (length c2-words) ∷ [])) ⊛ ‵ (LentAgain usize κ-words (ν3-6 ∷ []) q-words γ-words b-words o-words δ c2-words)))) (lends-again usize κ-words (ν3-6 ∷ []) q-words γ-words b-words o-words 𝓤 H A W (named 10) (named 5) c2-words) $ w-await ! tt $ w-pick ! (λ δ3-6. w-split ! $
-          w-lft-new ! tt (λ ν3-7. w-rewrite ! 36 (λ (m : ℕ). ‵ (MutSlice (named 11) κ-floats f64 .own (ref-floats γ-floats c2-floats) (sliceVal (b-floats, o-floats) m ∷ []))) (sym same2-floats) refl $ w-move ! (36 ∷ 38 ∷ []) $ use2 W (later (some (λ (δ : GName). ‵ (MutSlice (named 6) (ν3-7 ∷ []) f64 .own (ref-floats δ c2-floats) (sliceVal (b-floats, o-floats) (length c2-floats) ∷ [])) ⊛ ‵ (LentAgain f64 κ-floats (ν3-7 ∷ []) q-floats γ-floats b-floats o-floats δ c2-floats)))) (lends-again f64 κ-floats (ν3-7 ∷ []) q-floats γ-floats b-floats o-floats 𝓤 H A W (named 11) (named 6) c2-floats) $ w-await ! tt $ w-pick ! (λ δ3-7. w-split ! $
-          w-lft-new ! tt (λ ν3-8. w-move ! (39 ∷ 40 ∷ []) $ use2 W (later (some (λ (δ : GName). ‵ (MutSlice (named 7) (ν3-8 ∷ []) f64 .own (ref-b δ b) (sliceVal (b-b, o-b) (length b) ∷ [])) ⊛ ‵ (LentAgain f64 κ-b (ν3-8 ∷ []) q-b γ-b b-b o-b δ b)))) (lends-again f64 κ-b (ν3-8 ∷ []) q-b γ-b b-b o-b 𝓤 H A W (named 14) (named 7) b) $ w-await ! tt $ w-pick ! (λ δ3-8. w-split ! $
+          w-move ! (17 ∷ 25 ∷ []) $ w-show ! tt usize κ-permutation q-permutation γ-permutation b-permutation o-permutation (named 4) (named 0) c2-permutation (length permutation) same2-permutation (λ ν3-1 δ3-1.
+          w-move ! (20 ∷ 27 ∷ []) $ w-show ! tt usize κ-firsts q-firsts γ-firsts b-firsts o-firsts (named 5) (named 1) c2-firsts (length firsts) same2-firsts (λ ν3-2 δ3-2.
+          w-move ! (23 ∷ 29 ∷ []) $ w-show ! tt usize κ-starts q-starts γ-starts b-starts o-starts (named 6) (named 2) c2-starts (length starts) same2-starts (λ ν3-3 δ3-3.
+          w-written ! (‵ (ShrSlice (named 2) (ν3-3 ∷ []) usize .own (ref-starts δ3-3 c2-starts) (s-starts ∷ [])) ∷ ‵ (LentShared usize κ-starts (ν3-3 ∷ []) q-starts γ-starts b-starts o-starts c2-starts) ∷ ‵ (flft (ν3-3 ∷ []) fullShare) ∷ ‵ (ShrSlice (named 1) (ν3-2 ∷ []) usize .own (ref-firsts δ3-2 c2-firsts) (s-firsts ∷ [])) ∷ ‵ (LentShared usize κ-firsts (ν3-2 ∷ []) q-firsts γ-firsts b-firsts o-firsts c2-firsts) ∷ ‵ (flft (ν3-2 ∷ []) fullShare) ∷ ‵ (ShrSlice (named 0) (ν3-1 ∷ []) usize .own (ref-permutation δ3-1 c2-permutation) (s-permutation ∷ [])) ∷ ‵ (LentShared usize κ-permutation (ν3-1 ∷ []) q-permutation γ-permutation b-permutation o-permutation c2-permutation) ∷ ‵ (flft (ν3-1 ∷ []) fullShare) ∷ raw (Packed 𝓤 H A (‵ (ShrSlice (named 0) κ-input-starts usize .own (ref-input-starts γ-input-starts input-starts) (sliceVal (b-input-starts, o-input-starts) (length input-starts) ∷ [])) ∷ ‵ (ShrSlice (named 1) κ-input-rows usize .own (ref-input-rows γ-input-rows input-rows) (sliceVal (b-input-rows, o-input-rows) (length input-rows) ∷ [])) ∷ ‵ (ShrSlice (named 2) κ-input-values f64 .own (ref-input-values γ-input-values input-values) (sliceVal (b-input-values, o-input-values) (length input-values) ∷ [])) ∷ ‵ (ShrSlice (named 3) κ-list usize .own (ref-list γ-list «list») (sliceVal (b-list, o-list) (length «list») ∷ [])) ∷ ‵ (MutSlice (named 7) κ-groups usize .own (ref-groups γ-groups c2-groups) (sliceVal (b-groups, o-groups) (length groups) ∷ [])) ∷ ‵ (MutSlice (named 8) κ-tasks usize .own (ref-tasks γ-tasks c2-tasks) (sliceVal (b-tasks, o-tasks) (length tasks) ∷ [])) ∷ ‵ (MutSlice (named 9) κ-top usize .own (ref-top γ-top c2-top) (sliceVal (b-top, o-top) (length top) ∷ [])) ∷ ‵ (flft κ-input-starts q-input-starts) ∷ ‵ (flft κ-input-rows q-input-rows) ∷ ‵ (flft κ-input-values q-input-values) ∷ ‵ (flft κ-list q-list) ∷ ‵ (flft κ-groups q-groups) ∷ ‵ (flft κ-tasks q-tasks) ∷ ‵ (flft κ-top q-top) ∷ ‵ (fat fullShare ty2 l2 0 s-input-starts) ∷ ‵ (fat fullShare ty3 l3 0 s-input-rows) ∷ ‵ (fat fullShare ty4 l4 0 s-input-values) ∷ ‵ (fat fullShare ty5 l5 0 m-order) ∷ ‵ (fat fullShare ty6 l6 0 s-list) ∷ ‵ (fat fullShare ty7 l7 0 m-stop) ∷ ‵ (fat fullShare ty11 l11 0 s-groups) ∷ ‵ (fat fullShare ty12 l12 0 s-tasks) ∷ ‵ (fat fullShare ty13 l13 0 s-top) ∷ ‵ (fat fullShare ty19 l19 0 r1) ∷ ‵ (Lies T-Update.the-row 16384 l20 0 c2-updates) ∷ raw (Packed 𝓤 H A spare2) ∷ raw (Packed 𝓤 H A dying) ∷ [])) ∷ ‵ (fat fullShare ty45 l45 0 (vptr b-permutation o-permutation)) ∷ ‵ (fat fullShare ty46 l46 0 s-permutation) ∷ ‵ (fat fullShare ty47 l47 0 (vptr b-firsts o-firsts)) ∷ ‵ (fat fullShare ty48 l48 0 s-firsts) ∷ ‵ (fat fullShare ty49 l49 0 (vptr b-starts o-starts)) ∷ ‵ (fat fullShare ty50 l50 0 s-starts) ∷ ‵ (fat fullShare ty51 l51 0 (vptr b-rows o-rows)) ∷ ‵ (fat fullShare ty52 l52 0 s-rows) ∷ ‵ (fat fullShare ty53 l53 0 (vptr b-values o-values)) ∷ ‵ (fat fullShare ty54 l54 0 s-values) ∷ ‵ (fat fullShare ty55 l55 0 (vptr b-words o-words)) ∷ ‵ (fat fullShare ty56 l56 0 s-words) ∷ ‵ (fat fullShare ty57 l57 0 (vptr b-floats o-floats)) ∷ ‵ (fat fullShare ty58 l58 0 s-floats) ∷ ‵ (fat fullShare ty59 l59 0 (vptr b-b o-b)) ∷ ‵ (fat fullShare ty60 l60 0 s-b) ∷ ‵ (MutSlice (named 10) κ-words usize .own (ref-words γ-words c2-words) (sliceVal (b-words, o-words) (length words) ∷ [])) ∷ ‵ (MutSlice (named 11) κ-floats f64 .own (ref-floats γ-floats c2-floats) (sliceVal (b-floats, o-floats) (length floats) ∷ [])) ∷ ‵ (MutSlice (named 12) κ-rows usize .own (ref-rows γ-rows c2-rows) (sliceVal (b-rows, o-rows) (length rows) ∷ [])) ∷ ‵ (MutSlice (named 13) κ-values f64 .own (ref-values γ-values c2-values) (sliceVal (b-values, o-values) (length values) ∷ [])) ∷ ‵ (MutSlice (named 14) κ-b f64 .own (ref-b γ-b b) (sliceVal (b-b, o-b) (length b) ∷ [])) ∷ ‵ (flft κ-words q-words) ∷ ‵ (flft κ-floats q-floats) ∷ ‵ (flft κ-rows q-rows) ∷ ‵ (flft κ-values q-values) ∷ ‵ (flft κ-b q-b) ∷ ‵ (froom ty0 l0 0) ∷ ‵ (fat fullShare ty1 l1 0 (vint w64 n)) ∷ ‵ (fat fullShare ty8 l8 0 s-permutation) ∷ ‵ (fat fullShare ty9 l9 0 s-firsts) ∷ ‵ (fat fullShare ty10 l10 0 s-starts) ∷ ‵ (fat fullShare ty14 l14 0 s-words) ∷ ‵ (fat fullShare ty15 l15 0 s-floats) ∷ ‵ (fat fullShare ty16 l16 0 s-rows) ∷ ‵ (fat fullShare ty17 l17 0 s-values) ∷ ‵ (fat fullShare ty18 l18 0 s-b) ∷ ‵ (fat fullShare ty21 l21 0 r2) ∷ ‵ (froom ty44 l44 0) ∷ []) $
+          w-move ! (28 ∷ 33 ∷ []) $ w-show ! tt usize κ-rows q-rows γ-rows b-rows o-rows (named 12) (named 3) c2-rows (length rows) same2-rows (λ ν3-4 δ3-4.
+          w-move ! (31 ∷ 35 ∷ []) $ w-show ! tt f64 κ-values q-values γ-values b-values o-values (named 13) (named 4) c2-values (length values) same2-values (λ ν3-5 δ3-5.
+          w-move ! (32 ∷ 35 ∷ []) $ w-lend ! tt usize κ-words q-words γ-words b-words o-words (named 10) (named 5) c2-words (length words) same2-words (λ ν3-6 δ3-6.
+          w-written ! (‵ (MutSlice (named 5) (ν3-6 ∷ []) usize .own (ref-words δ3-6 c2-words) (s-words ∷ [])) ∷ ‵ (LentAgain usize κ-words (ν3-6 ∷ []) q-words γ-words b-words o-words δ3-6 c2-words) ∷ ‵ (flft (ν3-6 ∷ []) fullShare) ∷ ‵ (ShrSlice (named 4) (ν3-5 ∷ []) f64 .own (ref-values δ3-5 c2-values) (s-values ∷ [])) ∷ ‵ (LentShared f64 κ-values (ν3-5 ∷ []) q-values γ-values b-values o-values c2-values) ∷ ‵ (flft (ν3-5 ∷ []) fullShare) ∷ ‵ (ShrSlice (named 3) (ν3-4 ∷ []) usize .own (ref-rows δ3-4 c2-rows) (s-rows ∷ [])) ∷ ‵ (LentShared usize κ-rows (ν3-4 ∷ []) q-rows γ-rows b-rows o-rows c2-rows) ∷ ‵ (flft (ν3-4 ∷ []) fullShare) ∷ ‵ (ShrSlice (named 2) (ν3-3 ∷ []) usize .own (ref-starts δ3-3 c2-starts) (s-starts ∷ [])) ∷ ‵ (LentShared usize κ-starts (ν3-3 ∷ []) q-starts γ-starts b-starts o-starts c2-starts) ∷ ‵ (flft (ν3-3 ∷ []) fullShare) ∷ ‵ (ShrSlice (named 1) (ν3-2 ∷ []) usize .own (ref-firsts δ3-2 c2-firsts) (s-firsts ∷ [])) ∷ ‵ (LentShared usize κ-firsts (ν3-2 ∷ []) q-firsts γ-firsts b-firsts o-firsts c2-firsts) ∷ ‵ (flft (ν3-2 ∷ []) fullShare) ∷ ‵ (ShrSlice (named 0) (ν3-1 ∷ []) usize .own (ref-permutation δ3-1 c2-permutation) (s-permutation ∷ [])) ∷ ‵ (LentShared usize κ-permutation (ν3-1 ∷ []) q-permutation γ-permutation b-permutation o-permutation c2-permutation) ∷ ‵ (flft (ν3-1 ∷ []) fullShare) ∷ raw (Packed 𝓤 H A (‵ (ShrSlice (named 0) κ-input-starts usize .own (ref-input-starts γ-input-starts input-starts) (sliceVal (b-input-starts, o-input-starts) (length input-starts) ∷ [])) ∷ ‵ (ShrSlice (named 1) κ-input-rows usize .own (ref-input-rows γ-input-rows input-rows) (sliceVal (b-input-rows, o-input-rows) (length input-rows) ∷ [])) ∷ ‵ (ShrSlice (named 2) κ-input-values f64 .own (ref-input-values γ-input-values input-values) (sliceVal (b-input-values, o-input-values) (length input-values) ∷ [])) ∷ ‵ (ShrSlice (named 3) κ-list usize .own (ref-list γ-list «list») (sliceVal (b-list, o-list) (length «list») ∷ [])) ∷ ‵ (MutSlice (named 7) κ-groups usize .own (ref-groups γ-groups c2-groups) (sliceVal (b-groups, o-groups) (length groups) ∷ [])) ∷ ‵ (MutSlice (named 8) κ-tasks usize .own (ref-tasks γ-tasks c2-tasks) (sliceVal (b-tasks, o-tasks) (length tasks) ∷ [])) ∷ ‵ (MutSlice (named 9) κ-top usize .own (ref-top γ-top c2-top) (sliceVal (b-top, o-top) (length top) ∷ [])) ∷ ‵ (flft κ-input-starts q-input-starts) ∷ ‵ (flft κ-input-rows q-input-rows) ∷ ‵ (flft κ-input-values q-input-values) ∷ ‵ (flft κ-list q-list) ∷ ‵ (flft κ-groups q-groups) ∷ ‵ (flft κ-tasks q-tasks) ∷ ‵ (flft κ-top q-top) ∷ ‵ (fat fullShare ty2 l2 0 s-input-starts) ∷ ‵ (fat fullShare ty3 l3 0 s-input-rows) ∷ ‵ (fat fullShare ty4 l4 0 s-input-values) ∷ ‵ (fat fullShare ty5 l5 0 m-order) ∷ ‵ (fat fullShare ty6 l6 0 s-list) ∷ ‵ (fat fullShare ty7 l7 0 m-stop) ∷ ‵ (fat fullShare ty11 l11 0 s-groups) ∷ ‵ (fat fullShare ty12 l12 0 s-tasks) ∷ ‵ (fat fullShare ty13 l13 0 s-top) ∷ ‵ (fat fullShare ty19 l19 0 r1) ∷ ‵ (Lies T-Update.the-row 16384 l20 0 c2-updates) ∷ raw (Packed 𝓤 H A spare2) ∷ raw (Packed 𝓤 H A dying) ∷ [])) ∷ ‵ (fat fullShare ty45 l45 0 (vptr b-permutation o-permutation)) ∷ ‵ (fat fullShare ty46 l46 0 s-permutation) ∷ ‵ (fat fullShare ty47 l47 0 (vptr b-firsts o-firsts)) ∷ ‵ (fat fullShare ty48 l48 0 s-firsts) ∷ ‵ (fat fullShare ty49 l49 0 (vptr b-starts o-starts)) ∷ ‵ (fat fullShare ty50 l50 0 s-starts) ∷ ‵ (fat fullShare ty51 l51 0 (vptr b-rows o-rows)) ∷ ‵ (fat fullShare ty52 l52 0 s-rows) ∷ ‵ (fat fullShare ty53 l53 0 (vptr b-values o-values)) ∷ ‵ (fat fullShare ty54 l54 0 s-values) ∷ ‵ (fat fullShare ty55 l55 0 (vptr b-words o-words)) ∷ ‵ (fat fullShare ty56 l56 0 s-words) ∷ ‵ (fat fullShare ty57 l57 0 (vptr b-floats o-floats)) ∷ ‵ (fat fullShare ty58 l58 0 s-floats) ∷ ‵ (fat fullShare ty59 l59 0 (vptr b-b o-b)) ∷ ‵ (fat fullShare ty60 l60 0 s-b) ∷ ‵ (MutSlice (named 11) κ-floats f64 .own (ref-floats γ-floats c2-floats) (sliceVal (b-floats, o-floats) (length floats) ∷ [])) ∷ ‵ (MutSlice (named 14) κ-b f64 .own (ref-b γ-b b) (sliceVal (b-b, o-b) (length b) ∷ [])) ∷ ‵ (flft κ-floats q-floats) ∷ ‵ (flft κ-b q-b) ∷ ‵ (froom ty0 l0 0) ∷ ‵ (fat fullShare ty1 l1 0 (vint w64 n)) ∷ ‵ (fat fullShare ty8 l8 0 s-permutation) ∷ ‵ (fat fullShare ty9 l9 0 s-firsts) ∷ ‵ (fat fullShare ty10 l10 0 s-starts) ∷ ‵ (fat fullShare ty14 l14 0 s-words) ∷ ‵ (fat fullShare ty15 l15 0 s-floats) ∷ ‵ (fat fullShare ty16 l16 0 s-rows) ∷ ‵ (fat fullShare ty17 l17 0 s-values) ∷ ‵ (fat fullShare ty18 l18 0 s-b) ∷ ‵ (fat fullShare ty21 l21 0 r2) ∷ ‵ (froom ty44 l44 0) ∷ []) $
+          w-move ! (35 ∷ 37 ∷ []) $ w-lend ! tt f64 κ-floats q-floats γ-floats b-floats o-floats (named 11) (named 6) c2-floats (length floats) same2-floats (λ ν3-7 δ3-7.
+          w-move ! (38 ∷ 39 ∷ []) $ w-lend ! tt f64 κ-b q-b γ-b b-b o-b (named 14) (named 7) b (length b) refl (λ ν3-8 δ3-8.
           w-nothing ! $ w-move ! (1 ∷ 0 ∷ []) $ w-fjoin ! $ w-move ! (3 ∷ 0 ∷ []) $ w-fjoin ! $ w-move ! (5 ∷ 0 ∷ []) $ w-fjoin ! $ w-move ! (7 ∷ 0 ∷ []) $ w-fjoin ! $ w-move ! (9 ∷ 0 ∷ []) $ w-fjoin ! $ w-move ! (11 ∷ 0 ∷ []) $ w-fjoin ! $ w-move ! (13 ∷ 0 ∷ []) $ w-fjoin ! $ w-move ! (15 ∷ 0 ∷ []) $ w-fjoin ! $ w-owned ! T-Outcome.the-row (Is T-Outcome.the-row) (LL.makes T-Outcome.the-type L-Outcome.the-plain 𝓤 H A) u2 _ is2 $ w-fjoin ! $
           w-nothing ! $ w-move ! (3 ∷ 0 ∷ []) $ w-join ! $ w-move ! (4 ∷ 0 ∷ []) $ w-join ! $ w-move ! (5 ∷ 0 ∷ []) $ w-join ! $ w-move ! (6 ∷ 0 ∷ []) $ w-join ! $ w-move ! (7 ∷ 0 ∷ []) $ w-join ! $ w-move ! (8 ∷ 0 ∷ []) $ w-join ! $ w-move ! (9 ∷ 0 ∷ []) $ w-join ! $ w-move ! (10 ∷ 0 ∷ []) $ w-join ! $
-          use2 W (raw (C-solve-and-print 𝓤 H A mem run .pre (((ν3-1 ∷ [], (ν3-2 ∷ [], (ν3-3 ∷ [], (ν3-4 ∷ [], (ν3-5 ∷ [], (ν3-6 ∷ [], (ν3-7 ∷ [], (ν3-8 ∷ [], tt)))))))), (fullShare, (fullShare, (fullShare, (fullShare, (fullShare, (fullShare, (fullShare, (fullShare, tt)))))))), tt, (u2, (ref-permutation δ3-1 c2-permutation, (ref-firsts δ3-2 c2-firsts, (ref-starts δ3-3 c2-starts, (ref-rows δ3-4 c2-rows, (ref-values δ3-5 c2-values, (ref-words δ3-6 c2-words, (ref-floats δ3-7 c2-floats, (ref-b δ3-8 b, tt))))))))), (r2 ∷ [], (sliceVal (b-permutation, o-permutation) (length c2-permutation) ∷ [], (sliceVal (b-firsts, o-firsts) (length c2-firsts) ∷ [], (sliceVal (b-starts, o-starts) (length c2-starts) ∷ [], (sliceVal (b-rows, o-rows) (length c2-rows) ∷ [], (sliceVal (b-values, o-values) (length c2-values) ∷ [], (sliceVal (b-words, o-words) (length c2-words) ∷ [], (sliceVal (b-floats, o-floats) (length c2-floats) ∷ [], (sliceVal (b-b, o-b) (length b) ∷ [], tt)))))))))), tt))) (asked3 u1 r1 is1 d1 updates made-updates size-updates u2 r2 is2 c2-permutation c2-firsts c2-starts c2-groups c2-tasks c2-top c2-words c2-floats c2-rows c2-updates c2-values d2 same2-permutation same2-firsts same2-starts same2-groups same2-tasks same2-top same2-words same2-floats same2-rows same2-updates same2-values ν3-1 δ3-1 ν3-2 δ3-2 ν3-3 δ3-3 ν3-4 δ3-4 ν3-5 δ3-5 ν3-6 δ3-6 ν3-7 δ3-7 ν3-8 δ3-8) $
-          w-calls-at ! fm (C-solve-and-print 𝓤 H A mem run) known-solve-and-print (((ν3-1 ∷ [], (ν3-2 ∷ [], (ν3-3 ∷ [], (ν3-4 ∷ [], (ν3-5 ∷ [], (ν3-6 ∷ [], (ν3-7 ∷ [], (ν3-8 ∷ [], tt)))))))), (fullShare, (fullShare, (fullShare, (fullShare, (fullShare, (fullShare, (fullShare, (fullShare, tt)))))))), tt, (u2, (ref-permutation δ3-1 c2-permutation, (ref-firsts δ3-2 c2-firsts, (ref-starts δ3-3 c2-starts, (ref-rows δ3-4 c2-rows, (ref-values δ3-5 c2-values, (ref-words δ3-6 c2-words, (ref-floats δ3-7 c2-floats, (ref-b δ3-8 b, tt))))))))), (r2 ∷ [], (sliceVal (b-permutation, o-permutation) (length c2-permutation) ∷ [], (sliceVal (b-firsts, o-firsts) (length c2-firsts) ∷ [], (sliceVal (b-starts, o-starts) (length c2-starts) ∷ [], (sliceVal (b-rows, o-rows) (length c2-rows) ∷ [], (sliceVal (b-values, o-values) (length c2-values) ∷ [], (sliceVal (b-words, o-words) (length c2-words) ∷ [], (sliceVal (b-floats, o-floats) (length c2-floats) ∷ [], (sliceVal (b-b, o-b) (length b) ∷ [], tt)))))))))), tt) (w-and-then ! (w-load ! (w-from ! (w-stop !)) (w-look ! 36 refl)) (w-and-then ! (w-load ! (w-from ! (w-stop !)) (w-look ! 11 refl)) (w-and-then ! (w-load ! (w-from ! (w-stop !)) (w-look ! 13 refl)) (w-and-then ! (w-load ! (w-from ! (w-stop !)) (w-look ! 15 refl)) (w-and-then ! (w-load ! (w-from ! (w-stop !)) (w-look ! 17 refl)) (w-and-then ! (w-load ! (w-from ! (w-stop !)) (w-look ! 19 refl)) (w-and-then ! (w-load ! (w-from ! (w-stop !)) (w-look ! 21 refl)) (w-and-then ! (w-load ! (w-from ! (w-stop !)) (w-look ! 23 refl)) (w-and-then ! (w-load ! (w-from ! (w-stop !)) (w-look ! 25 refl)) (w-no-more !)))))))))) (λ r3.
+          use2 W (raw (C-solve-and-print 𝓤 H A mem run .pre (((ν3-1 ∷ [], (ν3-2 ∷ [], (ν3-3 ∷ [], (ν3-4 ∷ [], (ν3-5 ∷ [], (ν3-6 ∷ [], (ν3-7 ∷ [], (ν3-8 ∷ [], tt)))))))), (fullShare, (fullShare, (fullShare, (fullShare, (fullShare, (fullShare, (fullShare, (fullShare, tt)))))))), tt, (u2, (ref-permutation δ3-1 c2-permutation, (ref-firsts δ3-2 c2-firsts, (ref-starts δ3-3 c2-starts, (ref-rows δ3-4 c2-rows, (ref-values δ3-5 c2-values, (ref-words δ3-6 c2-words, (ref-floats δ3-7 c2-floats, (ref-b δ3-8 b, tt))))))))), (r2 ∷ [], (s-permutation ∷ [], (s-firsts ∷ [], (s-starts ∷ [], (s-rows ∷ [], (s-values ∷ [], (s-words ∷ [], (s-floats ∷ [], (s-b ∷ [], tt)))))))))), tt))) (asked3 u1 r1 is1 d1 updates made-updates size-updates u2 r2 is2 c2-permutation c2-firsts c2-starts c2-groups c2-tasks c2-top c2-words c2-floats c2-rows c2-updates c2-values d2 same2-permutation same2-firsts same2-starts same2-groups same2-tasks same2-top same2-words same2-floats same2-rows same2-updates same2-values ν3-1 δ3-1 ν3-2 δ3-2 ν3-3 δ3-3 ν3-4 δ3-4 ν3-5 δ3-5 ν3-6 δ3-6 ν3-7 δ3-7 ν3-8 δ3-8) $
+          w-calls-at ! fm (C-solve-and-print 𝓤 H A mem run) known-solve-and-print (((ν3-1 ∷ [], (ν3-2 ∷ [], (ν3-3 ∷ [], (ν3-4 ∷ [], (ν3-5 ∷ [], (ν3-6 ∷ [], (ν3-7 ∷ [], (ν3-8 ∷ [], tt)))))))), (fullShare, (fullShare, (fullShare, (fullShare, (fullShare, (fullShare, (fullShare, (fullShare, tt)))))))), tt, (u2, (ref-permutation δ3-1 c2-permutation, (ref-firsts δ3-2 c2-firsts, (ref-starts δ3-3 c2-starts, (ref-rows δ3-4 c2-rows, (ref-values δ3-5 c2-values, (ref-words δ3-6 c2-words, (ref-floats δ3-7 c2-floats, (ref-b δ3-8 b, tt))))))))), (r2 ∷ [], (s-permutation ∷ [], (s-firsts ∷ [], (s-starts ∷ [], (s-rows ∷ [], (s-values ∷ [], (s-words ∷ [], (s-floats ∷ [], (s-b ∷ [], tt)))))))))), tt) (w-and-then ! (w-load ! (w-from ! (w-stop !)) (w-look ! 36 refl)) (w-and-then ! (w-load ! (w-from ! (w-stop !)) (w-look ! 11 refl)) (w-and-then ! (w-load ! (w-from ! (w-stop !)) (w-look ! 13 refl)) (w-and-then ! (w-load ! (w-from ! (w-stop !)) (w-look ! 15 refl)) (w-and-then ! (w-load ! (w-from ! (w-stop !)) (w-look ! 17 refl)) (w-and-then ! (w-load ! (w-from ! (w-stop !)) (w-look ! 19 refl)) (w-and-then ! (w-load ! (w-from ! (w-stop !)) (w-look ! 21 refl)) (w-and-then ! (w-load ! (w-from ! (w-stop !)) (w-look ! 23 refl)) (w-and-then ! (w-load ! (w-from ! (w-stop !)) (w-look ! 25 refl)) (w-no-more !)))))))))) (λ r3.
           use1 W (later (some (λ (u′ : Unit {0}). ((‵ (flft (ν3-1 ∷ []) fullShare) ⊛ ‵ (flft (ν3-2 ∷ []) fullShare) ⊛ ‵ (flft (ν3-3 ∷ []) fullShare) ⊛ ‵ (flft (ν3-4 ∷ []) fullShare) ⊛ ‵ (flft (ν3-5 ∷ []) fullShare) ⊛ ‵ (flft (ν3-6 ∷ []) fullShare) ⊛ ‵ (flft (ν3-7 ∷ []) fullShare) ⊛ ‵ (flft (ν3-8 ∷ []) fullShare) ⊛ ‵ ftrue) ⊛ ‵ (Nothing .own u′ (r3 ∷ []))) ⊛ raw (ensured 𝓤 H A f-solve-and-print.ended (f-solve-and-print.clauses 𝓤 H A mem run) (ν3-1 ∷ [], (ν3-2 ∷ [], (ν3-3 ∷ [], (ν3-4 ∷ [], (ν3-5 ∷ [], (ν3-6 ∷ [], (ν3-7 ∷ [], (ν3-8 ∷ [], tt)))))))) (u2, (ref-permutation δ3-1 c2-permutation, (ref-firsts δ3-2 c2-firsts, (ref-starts δ3-3 c2-starts, (ref-rows δ3-4 c2-rows, (ref-values δ3-5 c2-values, (ref-words δ3-6 c2-words, (ref-floats δ3-7 c2-floats, (ref-b δ3-8 b, tt))))))))) tt u′)))) (id⊢ 𝓤 _) $ w-await ! tt $ w-pick ! (λ u3.
           w-split ! $ w-move ! (1 ∷ []) $ use1 W (some (λ (zs3 : Unit {0} × (Unit {0} × (Unit {0} × (Unit {0} × (Unit {0} × (Unit {0} × (List ℕ × (List Float × (List Float × Unit {0}))))))))). ‵ (lasts f-solve-and-print.ended (ν3-1 ∷ [], (ν3-2 ∷ [], (ν3-3 ∷ [], (ν3-4 ∷ [], (ν3-5 ∷ [], (ν3-6 ∷ [], (ν3-7 ∷ [], (ν3-8 ∷ [], tt)))))))) (u2, (ref-permutation δ3-1 c2-permutation, (ref-firsts δ3-2 c2-firsts, (ref-starts δ3-3 c2-starts, (ref-rows δ3-4 c2-rows, (ref-values δ3-5 c2-values, (ref-words δ3-6 c2-words, (ref-floats δ3-7 c2-floats, (ref-b δ3-8 b, tt))))))))) zs3) ⊛ raw (emp 𝓤))) (id⊢ 𝓤 _) $ w-pick ! (λ zs3. w-split ! $ w-move ! (1 ∷ []) $ w-drop ! $
-          w-fsplit ! $ w-drop ! $ w-fsplit ! $ w-drop ! $ w-fsplit ! $ w-drop ! $ w-fsplit ! $ w-drop ! $ w-fsplit ! $ w-drop ! $ w-fsplit ! $ w-drop ! $ w-fsplit ! $ w-fsplit ! $ w-move ! (1 ∷ []) $ w-feqL ! (λ same3-words. w-move ! (1 ∷ []) $ w-fsplit ! $ w-fsplit ! $ w-move ! (1 ∷ []) $ w-feqL ! (λ same3-floats. w-move ! (1 ∷ []) $ w-fsplit ! $ w-fsplit ! $ w-move ! (1 ∷ []) $ w-feqL ! (λ same3-b. w-move ! (1 ∷ []) $ w-drop ! $
+          w-past ! $ w-past ! $ w-past ! $ w-past ! $ w-past ! $ w-past ! $ w-last ! (λ same3-words. w-move ! (1 ∷ []) $ w-last ! (λ same3-floats. w-move ! (1 ∷ []) $ w-last ! (λ same3-b. w-move ! (1 ∷ []) $ w-drop ! $
           w-move ! (3 ∷ []) $ w-split ! $ w-move ! (1 ∷ []) $ w-peeks ! Nothing (Is Nothing) (shows 𝓤 H A Nothing) u3 (r3 ∷ []) (λ is3. w-land ! (w-from ! (w-stop !)) (w-init ! 41 refl (nothing-lawful 𝓤 H A W .typed u3 _ is3 .0)) $
-          w-drop ! $ w-split ! $ w-lft-end ! tt $ w-move ! (0 ∷ 12 ∷ []) $ use2 W (later (‵ (MutSlice (named 4) κ-permutation usize .own (ref-permutation γ-permutation c2-permutation) (sliceVal (b-permutation, o-permutation) (length c2-permutation) ∷ [])) ⊛ ‵ (flft κ-permutation q-permutation))) (shared-back usize κ-permutation (ν3-1 ∷ []) q-permutation γ-permutation b-permutation o-permutation 𝓤 H A W (named 4) (named 0) c2-permutation (subst (Room usize) (sym same2-permutation) room-permutation)) $ w-await ! tt $ w-split ! $
-          w-rewrite ! 0 (λ (m : ℕ). ‵ (MutSlice (named 4) κ-permutation usize .own (ref-permutation γ-permutation c2-permutation) (sliceVal (b-permutation, o-permutation) m ∷ []))) same2-permutation refl $
-          w-move ! (2 ∷ []) $ w-split ! $ w-lft-end ! tt $ w-move ! (0 ∷ 13 ∷ []) $ use2 W (later (‵ (MutSlice (named 5) κ-firsts usize .own (ref-firsts γ-firsts c2-firsts) (sliceVal (b-firsts, o-firsts) (length c2-firsts) ∷ [])) ⊛ ‵ (flft κ-firsts q-firsts))) (shared-back usize κ-firsts (ν3-2 ∷ []) q-firsts γ-firsts b-firsts o-firsts 𝓤 H A W (named 5) (named 1) c2-firsts (subst (Room usize) (sym same2-firsts) room-firsts)) $ w-await ! tt $ w-split ! $
-          w-rewrite ! 0 (λ (m : ℕ). ‵ (MutSlice (named 5) κ-firsts usize .own (ref-firsts γ-firsts c2-firsts) (sliceVal (b-firsts, o-firsts) m ∷ []))) same2-firsts refl $
-          w-move ! (2 ∷ []) $ w-split ! $ w-lft-end ! tt $ w-move ! (0 ∷ 14 ∷ []) $ use2 W (later (‵ (MutSlice (named 6) κ-starts usize .own (ref-starts γ-starts c2-starts) (sliceVal (b-starts, o-starts) (length c2-starts) ∷ [])) ⊛ ‵ (flft κ-starts q-starts))) (shared-back usize κ-starts (ν3-3 ∷ []) q-starts γ-starts b-starts o-starts 𝓤 H A W (named 6) (named 2) c2-starts (subst (Room usize) (sym same2-starts) room-starts)) $ w-await ! tt $ w-split ! $
-          w-rewrite ! 0 (λ (m : ℕ). ‵ (MutSlice (named 6) κ-starts usize .own (ref-starts γ-starts c2-starts) (sliceVal (b-starts, o-starts) m ∷ []))) same2-starts refl $
-          w-move ! (2 ∷ []) $ w-split ! $ w-lft-end ! tt $ w-move ! (0 ∷ 15 ∷ []) $ use2 W (later (‵ (MutSlice (named 12) κ-rows usize .own (ref-rows γ-rows c2-rows) (sliceVal (b-rows, o-rows) (length c2-rows) ∷ [])) ⊛ ‵ (flft κ-rows q-rows))) (shared-back usize κ-rows (ν3-4 ∷ []) q-rows γ-rows b-rows o-rows 𝓤 H A W (named 12) (named 3) c2-rows (subst (Room usize) (sym same2-rows) room-rows)) $ w-await ! tt $ w-split ! $
-          w-rewrite ! 0 (λ (m : ℕ). ‵ (MutSlice (named 12) κ-rows usize .own (ref-rows γ-rows c2-rows) (sliceVal (b-rows, o-rows) m ∷ []))) same2-rows refl $
-          w-move ! (2 ∷ []) $ w-split ! $ w-lft-end ! tt $ w-move ! (0 ∷ 16 ∷ []) $ use2 W (later (‵ (MutSlice (named 13) κ-values f64 .own (ref-values γ-values c2-values) (sliceVal (b-values, o-values) (length c2-values) ∷ [])) ⊛ ‵ (flft κ-values q-values))) (shared-back f64 κ-values (ν3-5 ∷ []) q-values γ-values b-values o-values 𝓤 H A W (named 13) (named 4) c2-values (subst (Room f64) (sym same2-values) room-values)) $ w-await ! tt $ w-split ! $
-          w-rewrite ! 0 (λ (m : ℕ). ‵ (MutSlice (named 13) κ-values f64 .own (ref-values γ-values c2-values) (sliceVal (b-values, o-values) m ∷ []))) same2-values refl $
-          w-move ! (2 ∷ []) $ w-split ! $ w-lft-end ! tt $ w-move ! (0 ∷ 17 ∷ 14 ∷ []) $ use3 W (later (‵ (MutSlice (named 10) κ-words usize .own (ref-words γ-words (zs3 .1 .1 .1 .1 .1 .1 .0)) (sliceVal (b-words, o-words) (length c2-words) ∷ [])) ⊛ ‵ (flft κ-words q-words))) (comes-back usize κ-words (ν3-6 ∷ []) q-words γ-words b-words o-words 𝓤 H A W (named 10) (named 5) c2-words δ3-6 (zs3 .1 .1 .1 .1 .1 .1 .0) (subst (Room usize) (sym same2-words) room-words) same3-words) $ w-await ! tt $ w-split ! $
-          w-rewrite ! 0 (λ (m : ℕ). ‵ (MutSlice (named 10) κ-words usize .own (ref-words γ-words (zs3 .1 .1 .1 .1 .1 .1 .0)) (sliceVal (b-words, o-words) m ∷ []))) same2-words refl $
-          w-move ! (2 ∷ []) $ w-split ! $ w-lft-end ! tt $ w-move ! (0 ∷ 17 ∷ 15 ∷ []) $ use3 W (later (‵ (MutSlice (named 11) κ-floats f64 .own (ref-floats γ-floats (zs3 .1 .1 .1 .1 .1 .1 .1 .0)) (sliceVal (b-floats, o-floats) (length c2-floats) ∷ [])) ⊛ ‵ (flft κ-floats q-floats))) (comes-back f64 κ-floats (ν3-7 ∷ []) q-floats γ-floats b-floats o-floats 𝓤 H A W (named 11) (named 6) c2-floats δ3-7 (zs3 .1 .1 .1 .1 .1 .1 .1 .0) (subst (Room f64) (sym same2-floats) room-floats) same3-floats) $ w-await ! tt $ w-split ! $
-          w-rewrite ! 0 (λ (m : ℕ). ‵ (MutSlice (named 11) κ-floats f64 .own (ref-floats γ-floats (zs3 .1 .1 .1 .1 .1 .1 .1 .0)) (sliceVal (b-floats, o-floats) m ∷ []))) same2-floats refl $
-          w-move ! (2 ∷ []) $ w-split ! $ w-lft-end ! tt $ w-move ! (0 ∷ 17 ∷ 16 ∷ []) $ use3 W (later (‵ (MutSlice (named 14) κ-b f64 .own (ref-b γ-b (zs3 .1 .1 .1 .1 .1 .1 .1 .1 .0)) (sliceVal (b-b, o-b) (length b) ∷ [])) ⊛ ‵ (flft κ-b q-b))) (comes-back f64 κ-b (ν3-8 ∷ []) q-b γ-b b-b o-b 𝓤 H A W (named 14) (named 7) b δ3-8 (zs3 .1 .1 .1 .1 .1 .1 .1 .1 .0) room-b same3-b) $ w-await ! tt $ w-split ! $
+          w-drop ! $ w-move ! (0 ∷ 11 ∷ []) $ w-shown ! tt usize κ-permutation q-permutation γ-permutation b-permutation o-permutation (named 4) (named 0) c2-permutation (length permutation) same2-permutation ν3-1 room-permutation $
+          w-move ! (2 ∷ 12 ∷ []) $ w-shown ! tt usize κ-firsts q-firsts γ-firsts b-firsts o-firsts (named 5) (named 1) c2-firsts (length firsts) same2-firsts ν3-2 room-firsts $
+          w-move ! (2 ∷ 13 ∷ []) $ w-shown ! tt usize κ-starts q-starts γ-starts b-starts o-starts (named 6) (named 2) c2-starts (length starts) same2-starts ν3-3 room-starts $
+          w-written ! (‵ (MutSlice (named 6) κ-starts usize .own (ref-starts γ-starts c2-starts) (sliceVal (b-starts, o-starts) (length starts) ∷ [])) ∷ ‵ (flft κ-starts q-starts) ∷ (‵ (flft (ν3-4 ∷ []) fullShare) ⊛ ‵ (flft (ν3-5 ∷ []) fullShare) ⊛ ‵ (flft (ν3-6 ∷ []) fullShare) ⊛ ‵ (flft (ν3-7 ∷ []) fullShare) ⊛ ‵ (flft (ν3-8 ∷ []) fullShare) ⊛ ‵ ftrue) ∷ ‵ (MutSlice (named 5) κ-firsts usize .own (ref-firsts γ-firsts c2-firsts) (sliceVal (b-firsts, o-firsts) (length firsts) ∷ [])) ∷ ‵ (flft κ-firsts q-firsts) ∷ ‵ (MutSlice (named 4) κ-permutation usize .own (ref-permutation γ-permutation c2-permutation) (sliceVal (b-permutation, o-permutation) (length permutation) ∷ [])) ∷ ‵ (flft κ-permutation q-permutation) ∷ ‵ (finally f64 δ3-8 (zs3 .1 .1 .1 .1 .1 .1 .1 .1 .0)) ∷ ‵ (finally f64 δ3-7 (zs3 .1 .1 .1 .1 .1 .1 .1 .0)) ∷ ‵ (finally usize δ3-6 (zs3 .1 .1 .1 .1 .1 .1 .0)) ∷ ‵ (LentAgain f64 κ-b (ν3-8 ∷ []) q-b γ-b b-b o-b δ3-8 b) ∷ ‵ (LentAgain f64 κ-floats (ν3-7 ∷ []) q-floats γ-floats b-floats o-floats δ3-7 c2-floats) ∷ ‵ (LentAgain usize κ-words (ν3-6 ∷ []) q-words γ-words b-words o-words δ3-6 c2-words) ∷ ‵ (LentShared f64 κ-values (ν3-5 ∷ []) q-values γ-values b-values o-values c2-values) ∷ ‵ (LentShared usize κ-rows (ν3-4 ∷ []) q-rows γ-rows b-rows o-rows c2-rows) ∷ raw (Packed 𝓤 H A (‵ (ShrSlice (named 0) κ-input-starts usize .own (ref-input-starts γ-input-starts input-starts) (sliceVal (b-input-starts, o-input-starts) (length input-starts) ∷ [])) ∷ ‵ (ShrSlice (named 1) κ-input-rows usize .own (ref-input-rows γ-input-rows input-rows) (sliceVal (b-input-rows, o-input-rows) (length input-rows) ∷ [])) ∷ ‵ (ShrSlice (named 2) κ-input-values f64 .own (ref-input-values γ-input-values input-values) (sliceVal (b-input-values, o-input-values) (length input-values) ∷ [])) ∷ ‵ (ShrSlice (named 3) κ-list usize .own (ref-list γ-list «list») (sliceVal (b-list, o-list) (length «list») ∷ [])) ∷ ‵ (MutSlice (named 7) κ-groups usize .own (ref-groups γ-groups c2-groups) (sliceVal (b-groups, o-groups) (length groups) ∷ [])) ∷ ‵ (MutSlice (named 8) κ-tasks usize .own (ref-tasks γ-tasks c2-tasks) (sliceVal (b-tasks, o-tasks) (length tasks) ∷ [])) ∷ ‵ (MutSlice (named 9) κ-top usize .own (ref-top γ-top c2-top) (sliceVal (b-top, o-top) (length top) ∷ [])) ∷ ‵ (flft κ-input-starts q-input-starts) ∷ ‵ (flft κ-input-rows q-input-rows) ∷ ‵ (flft κ-input-values q-input-values) ∷ ‵ (flft κ-list q-list) ∷ ‵ (flft κ-groups q-groups) ∷ ‵ (flft κ-tasks q-tasks) ∷ ‵ (flft κ-top q-top) ∷ ‵ (fat fullShare ty2 l2 0 s-input-starts) ∷ ‵ (fat fullShare ty3 l3 0 s-input-rows) ∷ ‵ (fat fullShare ty4 l4 0 s-input-values) ∷ ‵ (fat fullShare ty5 l5 0 m-order) ∷ ‵ (fat fullShare ty6 l6 0 s-list) ∷ ‵ (fat fullShare ty7 l7 0 m-stop) ∷ ‵ (fat fullShare ty11 l11 0 s-groups) ∷ ‵ (fat fullShare ty12 l12 0 s-tasks) ∷ ‵ (fat fullShare ty13 l13 0 s-top) ∷ ‵ (fat fullShare ty19 l19 0 r1) ∷ ‵ (Lies T-Update.the-row 16384 l20 0 c2-updates) ∷ raw (Packed 𝓤 H A spare2) ∷ raw (Packed 𝓤 H A dying) ∷ [])) ∷ ‵ (fat fullShare ty45 l45 0 (vptr b-permutation o-permutation)) ∷ ‵ (fat fullShare ty46 l46 0 s-permutation) ∷ ‵ (fat fullShare ty47 l47 0 (vptr b-firsts o-firsts)) ∷ ‵ (fat fullShare ty48 l48 0 s-firsts) ∷ ‵ (fat fullShare ty49 l49 0 (vptr b-starts o-starts)) ∷ ‵ (fat fullShare ty50 l50 0 s-starts) ∷ ‵ (fat fullShare ty51 l51 0 (vptr b-rows o-rows)) ∷ ‵ (fat fullShare ty52 l52 0 s-rows) ∷ ‵ (fat fullShare ty53 l53 0 (vptr b-values o-values)) ∷ ‵ (fat fullShare ty54 l54 0 s-values) ∷ ‵ (fat fullShare ty55 l55 0 (vptr b-words o-words)) ∷ ‵ (fat fullShare ty56 l56 0 s-words) ∷ ‵ (fat fullShare ty57 l57 0 (vptr b-floats o-floats)) ∷ ‵ (fat fullShare ty58 l58 0 s-floats) ∷ ‵ (fat fullShare ty59 l59 0 (vptr b-b o-b)) ∷ ‵ (fat fullShare ty60 l60 0 s-b) ∷ ‵ (froom ty0 l0 0) ∷ ‵ (fat fullShare ty1 l1 0 (vint w64 n)) ∷ ‵ (fat fullShare ty8 l8 0 s-permutation) ∷ ‵ (fat fullShare ty9 l9 0 s-firsts) ∷ ‵ (fat fullShare ty10 l10 0 s-starts) ∷ ‵ (fat fullShare ty14 l14 0 s-words) ∷ ‵ (fat fullShare ty15 l15 0 s-floats) ∷ ‵ (fat fullShare ty16 l16 0 s-rows) ∷ ‵ (fat fullShare ty17 l17 0 s-values) ∷ ‵ (fat fullShare ty18 l18 0 s-b) ∷ ‵ (fat fullShare ty21 l21 0 r2) ∷ ‵ (fat fullShare ty44 l44 0 r3) ∷ []) $
+          w-move ! (2 ∷ 14 ∷ []) $ w-shown ! tt usize κ-rows q-rows γ-rows b-rows o-rows (named 12) (named 3) c2-rows (length rows) same2-rows ν3-4 room-rows $
+          w-move ! (2 ∷ 15 ∷ []) $ w-shown ! tt f64 κ-values q-values γ-values b-values o-values (named 13) (named 4) c2-values (length values) same2-values ν3-5 room-values $
+          w-move ! (2 ∷ 16 ∷ 13 ∷ []) $ w-back ! tt usize κ-words q-words γ-words b-words o-words (named 10) (named 5) c2-words (length words) same2-words ν3-6 δ3-6 (zs3 .1 .1 .1 .1 .1 .1 .0) room-words same3-words $
+          w-written ! (‵ (MutSlice (named 10) κ-words usize .own (ref-words γ-words (zs3 .1 .1 .1 .1 .1 .1 .0)) (sliceVal (b-words, o-words) (length words) ∷ [])) ∷ ‵ (flft κ-words q-words) ∷ (‵ (flft (ν3-7 ∷ []) fullShare) ⊛ ‵ (flft (ν3-8 ∷ []) fullShare) ⊛ ‵ ftrue) ∷ ‵ (MutSlice (named 13) κ-values f64 .own (ref-values γ-values c2-values) (sliceVal (b-values, o-values) (length values) ∷ [])) ∷ ‵ (flft κ-values q-values) ∷ ‵ (MutSlice (named 12) κ-rows usize .own (ref-rows γ-rows c2-rows) (sliceVal (b-rows, o-rows) (length rows) ∷ [])) ∷ ‵ (flft κ-rows q-rows) ∷ ‵ (MutSlice (named 6) κ-starts usize .own (ref-starts γ-starts c2-starts) (sliceVal (b-starts, o-starts) (length starts) ∷ [])) ∷ ‵ (flft κ-starts q-starts) ∷ ‵ (MutSlice (named 5) κ-firsts usize .own (ref-firsts γ-firsts c2-firsts) (sliceVal (b-firsts, o-firsts) (length firsts) ∷ [])) ∷ ‵ (flft κ-firsts q-firsts) ∷ ‵ (MutSlice (named 4) κ-permutation usize .own (ref-permutation γ-permutation c2-permutation) (sliceVal (b-permutation, o-permutation) (length permutation) ∷ [])) ∷ ‵ (flft κ-permutation q-permutation) ∷ ‵ (finally f64 δ3-8 (zs3 .1 .1 .1 .1 .1 .1 .1 .1 .0)) ∷ ‵ (finally f64 δ3-7 (zs3 .1 .1 .1 .1 .1 .1 .1 .0)) ∷ ‵ (LentAgain f64 κ-b (ν3-8 ∷ []) q-b γ-b b-b o-b δ3-8 b) ∷ ‵ (LentAgain f64 κ-floats (ν3-7 ∷ []) q-floats γ-floats b-floats o-floats δ3-7 c2-floats) ∷ raw (Packed 𝓤 H A (‵ (ShrSlice (named 0) κ-input-starts usize .own (ref-input-starts γ-input-starts input-starts) (sliceVal (b-input-starts, o-input-starts) (length input-starts) ∷ [])) ∷ ‵ (ShrSlice (named 1) κ-input-rows usize .own (ref-input-rows γ-input-rows input-rows) (sliceVal (b-input-rows, o-input-rows) (length input-rows) ∷ [])) ∷ ‵ (ShrSlice (named 2) κ-input-values f64 .own (ref-input-values γ-input-values input-values) (sliceVal (b-input-values, o-input-values) (length input-values) ∷ [])) ∷ ‵ (ShrSlice (named 3) κ-list usize .own (ref-list γ-list «list») (sliceVal (b-list, o-list) (length «list») ∷ [])) ∷ ‵ (MutSlice (named 7) κ-groups usize .own (ref-groups γ-groups c2-groups) (sliceVal (b-groups, o-groups) (length groups) ∷ [])) ∷ ‵ (MutSlice (named 8) κ-tasks usize .own (ref-tasks γ-tasks c2-tasks) (sliceVal (b-tasks, o-tasks) (length tasks) ∷ [])) ∷ ‵ (MutSlice (named 9) κ-top usize .own (ref-top γ-top c2-top) (sliceVal (b-top, o-top) (length top) ∷ [])) ∷ ‵ (flft κ-input-starts q-input-starts) ∷ ‵ (flft κ-input-rows q-input-rows) ∷ ‵ (flft κ-input-values q-input-values) ∷ ‵ (flft κ-list q-list) ∷ ‵ (flft κ-groups q-groups) ∷ ‵ (flft κ-tasks q-tasks) ∷ ‵ (flft κ-top q-top) ∷ ‵ (fat fullShare ty2 l2 0 s-input-starts) ∷ ‵ (fat fullShare ty3 l3 0 s-input-rows) ∷ ‵ (fat fullShare ty4 l4 0 s-input-values) ∷ ‵ (fat fullShare ty5 l5 0 m-order) ∷ ‵ (fat fullShare ty6 l6 0 s-list) ∷ ‵ (fat fullShare ty7 l7 0 m-stop) ∷ ‵ (fat fullShare ty11 l11 0 s-groups) ∷ ‵ (fat fullShare ty12 l12 0 s-tasks) ∷ ‵ (fat fullShare ty13 l13 0 s-top) ∷ ‵ (fat fullShare ty19 l19 0 r1) ∷ ‵ (Lies T-Update.the-row 16384 l20 0 c2-updates) ∷ raw (Packed 𝓤 H A spare2) ∷ raw (Packed 𝓤 H A dying) ∷ [])) ∷ ‵ (fat fullShare ty45 l45 0 (vptr b-permutation o-permutation)) ∷ ‵ (fat fullShare ty46 l46 0 s-permutation) ∷ ‵ (fat fullShare ty47 l47 0 (vptr b-firsts o-firsts)) ∷ ‵ (fat fullShare ty48 l48 0 s-firsts) ∷ ‵ (fat fullShare ty49 l49 0 (vptr b-starts o-starts)) ∷ ‵ (fat fullShare ty50 l50 0 s-starts) ∷ ‵ (fat fullShare ty51 l51 0 (vptr b-rows o-rows)) ∷ ‵ (fat fullShare ty52 l52 0 s-rows) ∷ ‵ (fat fullShare ty53 l53 0 (vptr b-values o-values)) ∷ ‵ (fat fullShare ty54 l54 0 s-values) ∷ ‵ (fat fullShare ty55 l55 0 (vptr b-words o-words)) ∷ ‵ (fat fullShare ty56 l56 0 s-words) ∷ ‵ (fat fullShare ty57 l57 0 (vptr b-floats o-floats)) ∷ ‵ (fat fullShare ty58 l58 0 s-floats) ∷ ‵ (fat fullShare ty59 l59 0 (vptr b-b o-b)) ∷ ‵ (fat fullShare ty60 l60 0 s-b) ∷ ‵ (froom ty0 l0 0) ∷ ‵ (fat fullShare ty1 l1 0 (vint w64 n)) ∷ ‵ (fat fullShare ty8 l8 0 s-permutation) ∷ ‵ (fat fullShare ty9 l9 0 s-firsts) ∷ ‵ (fat fullShare ty10 l10 0 s-starts) ∷ ‵ (fat fullShare ty14 l14 0 s-words) ∷ ‵ (fat fullShare ty15 l15 0 s-floats) ∷ ‵ (fat fullShare ty16 l16 0 s-rows) ∷ ‵ (fat fullShare ty17 l17 0 s-values) ∷ ‵ (fat fullShare ty18 l18 0 s-b) ∷ ‵ (fat fullShare ty21 l21 0 r2) ∷ ‵ (fat fullShare ty44 l44 0 r3) ∷ []) $
+          w-move ! (2 ∷ 16 ∷ 14 ∷ []) $ w-back ! tt f64 κ-floats q-floats γ-floats b-floats o-floats (named 11) (named 6) c2-floats (length floats) same2-floats ν3-7 δ3-7 (zs3 .1 .1 .1 .1 .1 .1 .1 .0) room-floats same3-floats $
+          w-move ! (2 ∷ 16 ∷ 15 ∷ []) $ w-back ! tt f64 κ-b q-b γ-b b-b o-b (named 14) (named 7) b (length b) refl ν3-8 δ3-8 (zs3 .1 .1 .1 .1 .1 .1 .1 .1 .0) room-b same3-b $
           w-move ! (2 ∷ []) $ w-drop ! $
           w-forget ! 44 refl $ w-forget ! 17 refl $ w-forget ! 18 refl $ w-forget ! 19 refl $ w-forget ! 20 refl $ w-forget ! 21 refl $ w-forget ! 22 refl $ w-forget ! 23 refl $ w-forget ! 24 refl $ w-forget ! 25 refl $ w-forget ! 26 refl $ w-forget ! 27 refl $ w-forget ! 28 refl $ w-forget ! 29 refl $ w-forget ! 30 refl $ w-forget ! 31 refl $ w-forget ! 32 refl $ w-move ! (17 ∷ 18 ∷ 19 ∷ 20 ∷ 21 ∷ 22 ∷ 23 ∷ 24 ∷ 25 ∷ 26 ∷ 27 ∷ 28 ∷ 29 ∷ 30 ∷ 31 ∷ 32 ∷ []) $ w-pack ! (‵ (froom ty45 l45 0) ∷ ‵ (froom ty46 l46 0) ∷ ‵ (froom ty47 l47 0) ∷ ‵ (froom ty48 l48 0) ∷ ‵ (froom ty49 l49 0) ∷ ‵ (froom ty50 l50 0) ∷ ‵ (froom ty51 l51 0) ∷ ‵ (froom ty52 l52 0) ∷ ‵ (froom ty53 l53 0) ∷ ‵ (froom ty54 l54 0) ∷ ‵ (froom ty55 l55 0) ∷ ‵ (froom ty56 l56 0) ∷ ‵ (froom ty57 l57 0) ∷ ‵ (froom ty58 l58 0) ∷ ‵ (froom ty59 l59 0) ∷ ‵ (froom ty60 l60 0) ∷ []) $
+          w-written ! (raw (Packed 𝓤 H A spare3) ∷ ‵ (MutSlice (named 14) κ-b f64 .own (ref-b γ-b (zs3 .1 .1 .1 .1 .1 .1 .1 .1 .0)) (sliceVal (b-b, o-b) (length b) ∷ [])) ∷ ‵ (flft κ-b q-b) ∷ ‵ (MutSlice (named 11) κ-floats f64 .own (ref-floats γ-floats (zs3 .1 .1 .1 .1 .1 .1 .1 .0)) (sliceVal (b-floats, o-floats) (length floats) ∷ [])) ∷ ‵ (flft κ-floats q-floats) ∷ ‵ (MutSlice (named 10) κ-words usize .own (ref-words γ-words (zs3 .1 .1 .1 .1 .1 .1 .0)) (sliceVal (b-words, o-words) (length words) ∷ [])) ∷ ‵ (flft κ-words q-words) ∷ ‵ (MutSlice (named 13) κ-values f64 .own (ref-values γ-values c2-values) (sliceVal (b-values, o-values) (length values) ∷ [])) ∷ ‵ (flft κ-values q-values) ∷ ‵ (MutSlice (named 12) κ-rows usize .own (ref-rows γ-rows c2-rows) (sliceVal (b-rows, o-rows) (length rows) ∷ [])) ∷ ‵ (flft κ-rows q-rows) ∷ ‵ (MutSlice (named 6) κ-starts usize .own (ref-starts γ-starts c2-starts) (sliceVal (b-starts, o-starts) (length starts) ∷ [])) ∷ ‵ (flft κ-starts q-starts) ∷ ‵ (MutSlice (named 5) κ-firsts usize .own (ref-firsts γ-firsts c2-firsts) (sliceVal (b-firsts, o-firsts) (length firsts) ∷ [])) ∷ ‵ (flft κ-firsts q-firsts) ∷ ‵ (MutSlice (named 4) κ-permutation usize .own (ref-permutation γ-permutation c2-permutation) (sliceVal (b-permutation, o-permutation) (length permutation) ∷ [])) ∷ ‵ (flft κ-permutation q-permutation) ∷ raw (Packed 𝓤 H A (‵ (ShrSlice (named 0) κ-input-starts usize .own (ref-input-starts γ-input-starts input-starts) (sliceVal (b-input-starts, o-input-starts) (length input-starts) ∷ [])) ∷ ‵ (ShrSlice (named 1) κ-input-rows usize .own (ref-input-rows γ-input-rows input-rows) (sliceVal (b-input-rows, o-input-rows) (length input-rows) ∷ [])) ∷ ‵ (ShrSlice (named 2) κ-input-values f64 .own (ref-input-values γ-input-values input-values) (sliceVal (b-input-values, o-input-values) (length input-values) ∷ [])) ∷ ‵ (ShrSlice (named 3) κ-list usize .own (ref-list γ-list «list») (sliceVal (b-list, o-list) (length «list») ∷ [])) ∷ ‵ (MutSlice (named 7) κ-groups usize .own (ref-groups γ-groups c2-groups) (sliceVal (b-groups, o-groups) (length groups) ∷ [])) ∷ ‵ (MutSlice (named 8) κ-tasks usize .own (ref-tasks γ-tasks c2-tasks) (sliceVal (b-tasks, o-tasks) (length tasks) ∷ [])) ∷ ‵ (MutSlice (named 9) κ-top usize .own (ref-top γ-top c2-top) (sliceVal (b-top, o-top) (length top) ∷ [])) ∷ ‵ (flft κ-input-starts q-input-starts) ∷ ‵ (flft κ-input-rows q-input-rows) ∷ ‵ (flft κ-input-values q-input-values) ∷ ‵ (flft κ-list q-list) ∷ ‵ (flft κ-groups q-groups) ∷ ‵ (flft κ-tasks q-tasks) ∷ ‵ (flft κ-top q-top) ∷ ‵ (fat fullShare ty2 l2 0 s-input-starts) ∷ ‵ (fat fullShare ty3 l3 0 s-input-rows) ∷ ‵ (fat fullShare ty4 l4 0 s-input-values) ∷ ‵ (fat fullShare ty5 l5 0 m-order) ∷ ‵ (fat fullShare ty6 l6 0 s-list) ∷ ‵ (fat fullShare ty7 l7 0 m-stop) ∷ ‵ (fat fullShare ty11 l11 0 s-groups) ∷ ‵ (fat fullShare ty12 l12 0 s-tasks) ∷ ‵ (fat fullShare ty13 l13 0 s-top) ∷ ‵ (fat fullShare ty19 l19 0 r1) ∷ ‵ (Lies T-Update.the-row 16384 l20 0 c2-updates) ∷ raw (Packed 𝓤 H A spare2) ∷ raw (Packed 𝓤 H A dying) ∷ [])) ∷ ‵ (froom ty0 l0 0) ∷ ‵ (fat fullShare ty1 l1 0 (vint w64 n)) ∷ ‵ (fat fullShare ty8 l8 0 s-permutation) ∷ ‵ (fat fullShare ty9 l9 0 s-firsts) ∷ ‵ (fat fullShare ty10 l10 0 s-starts) ∷ ‵ (fat fullShare ty14 l14 0 s-words) ∷ ‵ (fat fullShare ty15 l15 0 s-floats) ∷ ‵ (fat fullShare ty16 l16 0 s-rows) ∷ ‵ (fat fullShare ty17 l17 0 s-values) ∷ ‵ (fat fullShare ty18 l18 0 s-b) ∷ ‵ (fat fullShare ty21 l21 0 r2) ∷ ‵ (froom ty44 l44 0) ∷ []) $
           w-move ! (17 ∷ []) $ w-unpack ! (‵ (ShrSlice (named 0) κ-input-starts usize .own (ref-input-starts γ-input-starts input-starts) (sliceVal (b-input-starts, o-input-starts) (length input-starts) ∷ [])) ∷ ‵ (ShrSlice (named 1) κ-input-rows usize .own (ref-input-rows γ-input-rows input-rows) (sliceVal (b-input-rows, o-input-rows) (length input-rows) ∷ [])) ∷ ‵ (ShrSlice (named 2) κ-input-values f64 .own (ref-input-values γ-input-values input-values) (sliceVal (b-input-values, o-input-values) (length input-values) ∷ [])) ∷ ‵ (ShrSlice (named 3) κ-list usize .own (ref-list γ-list «list») (sliceVal (b-list, o-list) (length «list») ∷ [])) ∷ ‵ (MutSlice (named 7) κ-groups usize .own (ref-groups γ-groups c2-groups) (sliceVal (b-groups, o-groups) (length groups) ∷ [])) ∷ ‵ (MutSlice (named 8) κ-tasks usize .own (ref-tasks γ-tasks c2-tasks) (sliceVal (b-tasks, o-tasks) (length tasks) ∷ [])) ∷ ‵ (MutSlice (named 9) κ-top usize .own (ref-top γ-top c2-top) (sliceVal (b-top, o-top) (length top) ∷ [])) ∷ ‵ (flft κ-input-starts q-input-starts) ∷ ‵ (flft κ-input-rows q-input-rows) ∷ ‵ (flft κ-input-values q-input-values) ∷ ‵ (flft κ-list q-list) ∷ ‵ (flft κ-groups q-groups) ∷ ‵ (flft κ-tasks q-tasks) ∷ ‵ (flft κ-top q-top) ∷ ‵ (fat fullShare ty2 l2 0 s-input-starts) ∷ ‵ (fat fullShare ty3 l3 0 s-input-rows) ∷ ‵ (fat fullShare ty4 l4 0 s-input-values) ∷ ‵ (fat fullShare ty5 l5 0 m-order) ∷ ‵ (fat fullShare ty6 l6 0 s-list) ∷ ‵ (fat fullShare ty7 l7 0 m-stop) ∷ ‵ (fat fullShare ty11 l11 0 s-groups) ∷ ‵ (fat fullShare ty12 l12 0 s-tasks) ∷ ‵ (fat fullShare ty13 l13 0 s-top) ∷ ‵ (fat fullShare ty19 l19 0 r1) ∷ ‵ (Lies T-Update.the-row 16384 l20 0 c2-updates) ∷ raw (Packed 𝓤 H A spare2) ∷ raw (Packed 𝓤 H A dying) ∷ []) $
-          w-keep ! (0 ∷ 1 ∷ 2 ∷ 3 ∷ 42 ∷ 40 ∷ 38 ∷ 4 ∷ 5 ∷ 6 ∷ 32 ∷ 30 ∷ 36 ∷ 34 ∷ 28 ∷ 7 ∷ 8 ∷ 9 ∷ 10 ∷ 43 ∷ 41 ∷ 39 ∷ 11 ∷ 12 ∷ 13 ∷ 33 ∷ 31 ∷ 37 ∷ 35 ∷ 29 ∷ 44 ∷ 45 ∷ 14 ∷ 15 ∷ 16 ∷ 17 ∷ 18 ∷ 19 ∷ 46 ∷ 47 ∷ 48 ∷ 20 ∷ 21 ∷ 22 ∷ 49 ∷ 50 ∷ 51 ∷ 52 ∷ 53 ∷ 23 ∷ 24 ∷ 54 ∷ 55 ∷ 25 ∷ 27 ∷ 26 ∷ []) $ after3 u1 r1 is1 d1 updates made-updates size-updates u2 r2 is2 c2-permutation c2-firsts c2-starts c2-groups c2-tasks c2-top c2-words c2-floats c2-rows c2-updates c2-values d2 same2-permutation same2-firsts same2-starts same2-groups same2-tasks same2-top same2-words same2-floats same2-rows same2-updates same2-values (zs3 .1 .1 .1 .1 .1 .1 .0) (zs3 .1 .1 .1 .1 .1 .1 .1 .0) (zs3 .1 .1 .1 .1 .1 .1 .1 .1 .0) same3-words same3-floats same3-b)))))))))))))))))))))))
+          w-keep ! (0 ∷ 1 ∷ 2 ∷ 3 ∷ 42 ∷ 40 ∷ 38 ∷ 4 ∷ 5 ∷ 6 ∷ 32 ∷ 30 ∷ 36 ∷ 34 ∷ 28 ∷ 7 ∷ 8 ∷ 9 ∷ 10 ∷ 43 ∷ 41 ∷ 39 ∷ 11 ∷ 12 ∷ 13 ∷ 33 ∷ 31 ∷ 37 ∷ 35 ∷ 29 ∷ 44 ∷ 45 ∷ 14 ∷ 15 ∷ 16 ∷ 17 ∷ 18 ∷ 19 ∷ 46 ∷ 47 ∷ 48 ∷ 20 ∷ 21 ∷ 22 ∷ 49 ∷ 50 ∷ 51 ∷ 52 ∷ 53 ∷ 23 ∷ 24 ∷ 54 ∷ 55 ∷ 25 ∷ 27 ∷ 26 ∷ []) $ after3 u1 r1 is1 d1 updates made-updates size-updates u2 r2 is2 c2-permutation c2-firsts c2-starts c2-groups c2-tasks c2-top c2-words c2-floats c2-rows c2-updates c2-values d2 same2-permutation same2-firsts same2-starts same2-groups same2-tasks same2-top same2-words same2-floats same2-rows same2-updates same2-values (zs3 .1 .1 .1 .1 .1 .1 .0) (zs3 .1 .1 .1 .1 .1 .1 .1 .0) (zs3 .1 .1 .1 .1 .1 .1 .1 .1 .0) same3-words same3-floats same3-b)))))))))))))))
 
       with-updates : (u1 : Update) (r1 : Val) (is1 : Is T-Update.the-row u1 (r1 ∷ [])) (d1 : u1 ≡ noUpdate) (updates : List Update) (made-updates : updates ≡ replicate 16384 u1) (size-updates : length updates ≡ 16384) → Sq W (‵ (ShrSlice (named 0) κ-input-starts usize .own (ref-input-starts γ-input-starts input-starts) (sliceVal (b-input-starts, o-input-starts) (length input-starts) ∷ [])) ∷ ‵ (ShrSlice (named 1) κ-input-rows usize .own (ref-input-rows γ-input-rows input-rows) (sliceVal (b-input-rows, o-input-rows) (length input-rows) ∷ [])) ∷ ‵ (ShrSlice (named 2) κ-input-values f64 .own (ref-input-values γ-input-values input-values) (sliceVal (b-input-values, o-input-values) (length input-values) ∷ [])) ∷ ‵ (ShrSlice (named 3) κ-list usize .own (ref-list γ-list «list») (sliceVal (b-list, o-list) (length «list») ∷ [])) ∷ ‵ (MutSlice (named 4) κ-permutation usize .own (ref-permutation γ-permutation permutation) (sliceVal (b-permutation, o-permutation) (length permutation) ∷ [])) ∷ ‵ (MutSlice (named 5) κ-firsts usize .own (ref-firsts γ-firsts firsts) (sliceVal (b-firsts, o-firsts) (length firsts) ∷ [])) ∷ ‵ (MutSlice (named 6) κ-starts usize .own (ref-starts γ-starts starts) (sliceVal (b-starts, o-starts) (length starts) ∷ [])) ∷ ‵ (MutSlice (named 7) κ-groups usize .own (ref-groups γ-groups groups) (sliceVal (b-groups, o-groups) (length groups) ∷ [])) ∷ ‵ (MutSlice (named 8) κ-tasks usize .own (ref-tasks γ-tasks tasks) (sliceVal (b-tasks, o-tasks) (length tasks) ∷ [])) ∷ ‵ (MutSlice (named 9) κ-top usize .own (ref-top γ-top top) (sliceVal (b-top, o-top) (length top) ∷ [])) ∷ ‵ (MutSlice (named 10) κ-words usize .own (ref-words γ-words words) (sliceVal (b-words, o-words) (length words) ∷ [])) ∷ ‵ (MutSlice (named 11) κ-floats f64 .own (ref-floats γ-floats floats) (sliceVal (b-floats, o-floats) (length floats) ∷ [])) ∷ ‵ (MutSlice (named 12) κ-rows usize .own (ref-rows γ-rows rows) (sliceVal (b-rows, o-rows) (length rows) ∷ [])) ∷ ‵ (MutSlice (named 13) κ-values f64 .own (ref-values γ-values values) (sliceVal (b-values, o-values) (length values) ∷ [])) ∷ ‵ (MutSlice (named 14) κ-b f64 .own (ref-b γ-b b) (sliceVal (b-b, o-b) (length b) ∷ [])) ∷ ‵ (flft κ-input-starts q-input-starts) ∷ ‵ (flft κ-input-rows q-input-rows) ∷ ‵ (flft κ-input-values q-input-values) ∷ ‵ (flft κ-list q-list) ∷ ‵ (flft κ-permutation q-permutation) ∷ ‵ (flft κ-firsts q-firsts) ∷ ‵ (flft κ-starts q-starts) ∷ ‵ (flft κ-groups q-groups) ∷ ‵ (flft κ-tasks q-tasks) ∷ ‵ (flft κ-top q-top) ∷ ‵ (flft κ-words q-words) ∷ ‵ (flft κ-floats q-floats) ∷ ‵ (flft κ-rows q-rows) ∷ ‵ (flft κ-values q-values) ∷ ‵ (flft κ-b q-b) ∷ ‵ (froom ty0 l0 0) ∷ ‵ (fat fullShare ty1 l1 0 (vint w64 n)) ∷ ‵ (fat fullShare ty2 l2 0 s-input-starts) ∷ ‵ (fat fullShare ty3 l3 0 s-input-rows) ∷ ‵ (fat fullShare ty4 l4 0 s-input-values) ∷ ‵ (fat fullShare ty5 l5 0 m-order) ∷ ‵ (fat fullShare ty6 l6 0 s-list) ∷ ‵ (fat fullShare ty7 l7 0 m-stop) ∷ ‵ (fat fullShare ty8 l8 0 s-permutation) ∷ ‵ (fat fullShare ty9 l9 0 s-firsts) ∷ ‵ (fat fullShare ty10 l10 0 s-starts) ∷ ‵ (fat fullShare ty11 l11 0 s-groups) ∷ ‵ (fat fullShare ty12 l12 0 s-tasks) ∷ ‵ (fat fullShare ty13 l13 0 s-top) ∷ ‵ (fat fullShare ty14 l14 0 s-words) ∷ ‵ (fat fullShare ty15 l15 0 s-floats) ∷ ‵ (fat fullShare ty16 l16 0 s-rows) ∷ ‵ (fat fullShare ty17 l17 0 s-values) ∷ ‵ (fat fullShare ty18 l18 0 s-b) ∷ ‵ (fat fullShare ty19 l19 0 r1) ∷ ‵ (Lies T-Update.the-row 16384 l20 0 updates) ∷ ‵ (froom ty21 l21 0) ∷ ‵ (froom ty44 l44 0) ∷ raw (Packed 𝓤 H A spare2) ∷ raw (Packed 𝓤 H A spare3) ∷ raw (Packed 𝓤 H A dying) ∷ []) (runs C Λ En body.t-3 (atRet En Post))
       with-updates u1 r1 is1 d1 updates made-updates size-updates =
@@ -519,40 +511,49 @@ module _ {M : Type 1} (𝓤 : URA M) (H : Heap 𝓤) (A : Atoms 𝓤) (W : Given
           w-move ! (25 ∷ []) $ use1 W (‵ (ShrSlice (named 1) κ-input-rows usize .own (ref-input-rows γ-input-rows input-rows) (sliceVal (b-input-rows, o-input-rows) (length input-rows) ∷ [])) ⊛ ‵ (ShrSlice (named 1) κ-input-rows usize .own (ref-input-rows γ-input-rows input-rows) (sliceVal (b-input-rows, o-input-rows) (length input-rows) ∷ []))) (shr-slice-copy 𝓤 H A W (named 1) κ-input-rows usize .twice (ref-input-rows γ-input-rows input-rows) (s-input-rows ∷ [])) $ w-split ! $
           w-move ! (27 ∷ []) $ use1 W (‵ (ShrSlice (named 2) κ-input-values f64 .own (ref-input-values γ-input-values input-values) (sliceVal (b-input-values, o-input-values) (length input-values) ∷ [])) ⊛ ‵ (ShrSlice (named 2) κ-input-values f64 .own (ref-input-values γ-input-values input-values) (sliceVal (b-input-values, o-input-values) (length input-values) ∷ []))) (shr-slice-copy 𝓤 H A W (named 2) κ-input-values f64 .twice (ref-input-values γ-input-values input-values) (s-input-values ∷ [])) $ w-split ! $
           w-move ! (29 ∷ []) $ use1 W (‵ (ShrSlice (named 3) κ-list usize .own (ref-list γ-list «list») (sliceVal (b-list, o-list) (length «list») ∷ [])) ⊛ ‵ (ShrSlice (named 3) κ-list usize .own (ref-list γ-list «list») (sliceVal (b-list, o-list) (length «list») ∷ []))) (shr-slice-copy 𝓤 H A W (named 3) κ-list usize .twice (ref-list γ-list «list») (s-list ∷ [])) $ w-split ! $
-          w-lft-new ! tt (λ ν2-8. w-move ! (32 ∷ 46 ∷ []) $ use2 W (later (some (λ (δ : GName). ‵ (MutSlice (named 4) (ν2-8 ∷ []) usize .own (ref-permutation δ permutation) (sliceVal (b-permutation, o-permutation) (length permutation) ∷ [])) ⊛ ‵ (LentAgain usize κ-permutation (ν2-8 ∷ []) q-permutation γ-permutation b-permutation o-permutation δ permutation)))) (lends-again usize κ-permutation (ν2-8 ∷ []) q-permutation γ-permutation b-permutation o-permutation 𝓤 H A W (named 4) (named 4) permutation) $ w-await ! tt $ w-pick ! (λ δ2-8. w-split ! $
-          w-lft-new ! tt (λ ν2-9. w-move ! (35 ∷ 48 ∷ []) $ use2 W (later (some (λ (δ : GName). ‵ (MutSlice (named 5) (ν2-9 ∷ []) usize .own (ref-firsts δ firsts) (sliceVal (b-firsts, o-firsts) (length firsts) ∷ [])) ⊛ ‵ (LentAgain usize κ-firsts (ν2-9 ∷ []) q-firsts γ-firsts b-firsts o-firsts δ firsts)))) (lends-again usize κ-firsts (ν2-9 ∷ []) q-firsts γ-firsts b-firsts o-firsts 𝓤 H A W (named 5) (named 5) firsts) $ w-await ! tt $ w-pick ! (λ δ2-9. w-split ! $
-          w-lft-new ! tt (λ ν2-10. w-move ! (38 ∷ 50 ∷ []) $ use2 W (later (some (λ (δ : GName). ‵ (MutSlice (named 6) (ν2-10 ∷ []) usize .own (ref-starts δ starts) (sliceVal (b-starts, o-starts) (length starts) ∷ [])) ⊛ ‵ (LentAgain usize κ-starts (ν2-10 ∷ []) q-starts γ-starts b-starts o-starts δ starts)))) (lends-again usize κ-starts (ν2-10 ∷ []) q-starts γ-starts b-starts o-starts 𝓤 H A W (named 6) (named 6) starts) $ w-await ! tt $ w-pick ! (λ δ2-10. w-split ! $
-          w-lft-new ! tt (λ ν2-11. w-move ! (41 ∷ 52 ∷ []) $ use2 W (later (some (λ (δ : GName). ‵ (MutSlice (named 7) (ν2-11 ∷ []) usize .own (ref-groups δ groups) (sliceVal (b-groups, o-groups) (length groups) ∷ [])) ⊛ ‵ (LentAgain usize κ-groups (ν2-11 ∷ []) q-groups γ-groups b-groups o-groups δ groups)))) (lends-again usize κ-groups (ν2-11 ∷ []) q-groups γ-groups b-groups o-groups 𝓤 H A W (named 7) (named 7) groups) $ w-await ! tt $ w-pick ! (λ δ2-11. w-split ! $
-          w-lft-new ! tt (λ ν2-12. w-move ! (44 ∷ 54 ∷ []) $ use2 W (later (some (λ (δ : GName). ‵ (MutSlice (named 8) (ν2-12 ∷ []) usize .own (ref-tasks δ tasks) (sliceVal (b-tasks, o-tasks) (length tasks) ∷ [])) ⊛ ‵ (LentAgain usize κ-tasks (ν2-12 ∷ []) q-tasks γ-tasks b-tasks o-tasks δ tasks)))) (lends-again usize κ-tasks (ν2-12 ∷ []) q-tasks γ-tasks b-tasks o-tasks 𝓤 H A W (named 8) (named 8) tasks) $ w-await ! tt $ w-pick ! (λ δ2-12. w-split ! $
-          w-lft-new ! tt (λ ν2-13. w-move ! (47 ∷ 56 ∷ []) $ use2 W (later (some (λ (δ : GName). ‵ (MutSlice (named 9) (ν2-13 ∷ []) usize .own (ref-top δ top) (sliceVal (b-top, o-top) (length top) ∷ [])) ⊛ ‵ (LentAgain usize κ-top (ν2-13 ∷ []) q-top γ-top b-top o-top δ top)))) (lends-again usize κ-top (ν2-13 ∷ []) q-top γ-top b-top o-top 𝓤 H A W (named 9) (named 9) top) $ w-await ! tt $ w-pick ! (λ δ2-13. w-split ! $
-          w-lft-new ! tt (λ ν2-14. w-move ! (50 ∷ 58 ∷ []) $ use2 W (later (some (λ (δ : GName). ‵ (MutSlice (named 10) (ν2-14 ∷ []) usize .own (ref-words δ words) (sliceVal (b-words, o-words) (length words) ∷ [])) ⊛ ‵ (LentAgain usize κ-words (ν2-14 ∷ []) q-words γ-words b-words o-words δ words)))) (lends-again usize κ-words (ν2-14 ∷ []) q-words γ-words b-words o-words 𝓤 H A W (named 10) (named 10) words) $ w-await ! tt $ w-pick ! (λ δ2-14. w-split ! $
-          w-lft-new ! tt (λ ν2-15. w-move ! (53 ∷ 60 ∷ []) $ use2 W (later (some (λ (δ : GName). ‵ (MutSlice (named 11) (ν2-15 ∷ []) f64 .own (ref-floats δ floats) (sliceVal (b-floats, o-floats) (length floats) ∷ [])) ⊛ ‵ (LentAgain f64 κ-floats (ν2-15 ∷ []) q-floats γ-floats b-floats o-floats δ floats)))) (lends-again f64 κ-floats (ν2-15 ∷ []) q-floats γ-floats b-floats o-floats 𝓤 H A W (named 11) (named 11) floats) $ w-await ! tt $ w-pick ! (λ δ2-15. w-split ! $
-          w-lft-new ! tt (λ ν2-16. w-move ! (56 ∷ 62 ∷ []) $ use2 W (later (some (λ (δ : GName). ‵ (MutSlice (named 12) (ν2-16 ∷ []) usize .own (ref-rows δ rows) (sliceVal (b-rows, o-rows) (length rows) ∷ [])) ⊛ ‵ (LentAgain usize κ-rows (ν2-16 ∷ []) q-rows γ-rows b-rows o-rows δ rows)))) (lends-again usize κ-rows (ν2-16 ∷ []) q-rows γ-rows b-rows o-rows 𝓤 H A W (named 12) (named 12) rows) $ w-await ! tt $ w-pick ! (λ δ2-16. w-split ! $
+          w-move ! (31 ∷ 45 ∷ []) $ w-lend ! tt usize κ-permutation q-permutation γ-permutation b-permutation o-permutation (named 4) (named 4) permutation (length permutation) refl (λ ν2-8 δ2-8.
+          w-move ! (34 ∷ 47 ∷ []) $ w-lend ! tt usize κ-firsts q-firsts γ-firsts b-firsts o-firsts (named 5) (named 5) firsts (length firsts) refl (λ ν2-9 δ2-9.
+          w-written ! (‵ (MutSlice (named 5) (ν2-9 ∷ []) usize .own (ref-firsts δ2-9 firsts) (s-firsts ∷ [])) ∷ ‵ (LentAgain usize κ-firsts (ν2-9 ∷ []) q-firsts γ-firsts b-firsts o-firsts δ2-9 firsts) ∷ ‵ (flft (ν2-9 ∷ []) fullShare) ∷ ‵ (MutSlice (named 4) (ν2-8 ∷ []) usize .own (ref-permutation δ2-8 permutation) (s-permutation ∷ [])) ∷ ‵ (LentAgain usize κ-permutation (ν2-8 ∷ []) q-permutation γ-permutation b-permutation o-permutation δ2-8 permutation) ∷ ‵ (flft (ν2-8 ∷ []) fullShare) ∷ ‵ (ShrSlice (named 3) κ-list usize .own (ref-list γ-list «list») (sliceVal (b-list, o-list) (length «list») ∷ [])) ∷ ‵ (ShrSlice (named 3) κ-list usize .own (ref-list γ-list «list») (sliceVal (b-list, o-list) (length «list») ∷ [])) ∷ ‵ (ShrSlice (named 2) κ-input-values f64 .own (ref-input-values γ-input-values input-values) (sliceVal (b-input-values, o-input-values) (length input-values) ∷ [])) ∷ ‵ (ShrSlice (named 2) κ-input-values f64 .own (ref-input-values γ-input-values input-values) (sliceVal (b-input-values, o-input-values) (length input-values) ∷ [])) ∷ ‵ (ShrSlice (named 1) κ-input-rows usize .own (ref-input-rows γ-input-rows input-rows) (sliceVal (b-input-rows, o-input-rows) (length input-rows) ∷ [])) ∷ ‵ (ShrSlice (named 1) κ-input-rows usize .own (ref-input-rows γ-input-rows input-rows) (sliceVal (b-input-rows, o-input-rows) (length input-rows) ∷ [])) ∷ ‵ (ShrSlice (named 0) κ-input-starts usize .own (ref-input-starts γ-input-starts input-starts) (sliceVal (b-input-starts, o-input-starts) (length input-starts) ∷ [])) ∷ ‵ (ShrSlice (named 0) κ-input-starts usize .own (ref-input-starts γ-input-starts input-starts) (sliceVal (b-input-starts, o-input-starts) (length input-starts) ∷ [])) ∷ raw (Packed 𝓤 H A (‵ (MutSlice (named 14) κ-b f64 .own (ref-b γ-b b) (sliceVal (b-b, o-b) (length b) ∷ [])) ∷ ‵ (flft κ-b q-b) ∷ ‵ (fat fullShare ty18 l18 0 s-b) ∷ ‵ (fat fullShare ty19 l19 0 r1) ∷ ‵ (froom ty44 l44 0) ∷ raw (Packed 𝓤 H A spare3) ∷ raw (Packed 𝓤 H A dying) ∷ [])) ∷ ‵ (fat fullShare ty22 l22 0 (vptr b-permutation o-permutation)) ∷ ‵ (fat fullShare ty23 l23 0 s-permutation) ∷ ‵ (fat fullShare ty24 l24 0 (vptr b-firsts o-firsts)) ∷ ‵ (fat fullShare ty25 l25 0 s-firsts) ∷ ‵ (fat fullShare ty26 l26 0 (vptr b-starts o-starts)) ∷ ‵ (fat fullShare ty27 l27 0 s-starts) ∷ ‵ (fat fullShare ty28 l28 0 (vptr b-groups o-groups)) ∷ ‵ (fat fullShare ty29 l29 0 s-groups) ∷ ‵ (fat fullShare ty30 l30 0 (vptr b-tasks o-tasks)) ∷ ‵ (fat fullShare ty31 l31 0 s-tasks) ∷ ‵ (fat fullShare ty32 l32 0 (vptr b-top o-top)) ∷ ‵ (fat fullShare ty33 l33 0 s-top) ∷ ‵ (fat fullShare ty34 l34 0 (vptr b-words o-words)) ∷ ‵ (fat fullShare ty35 l35 0 s-words) ∷ ‵ (fat fullShare ty36 l36 0 (vptr b-floats o-floats)) ∷ ‵ (fat fullShare ty37 l37 0 s-floats) ∷ ‵ (fat fullShare ty38 l38 0 (vptr b-rows o-rows)) ∷ ‵ (fat fullShare ty39 l39 0 s-rows) ∷ ‵ (fat fullShare ty40 l40 0 (vptr l20 0)) ∷ ‵ (fat fullShare ty41 l41 0 (sliceVal (l20, 0) (length updates))) ∷ ‵ (fat fullShare ty42 l42 0 (vptr b-values o-values)) ∷ ‵ (fat fullShare ty43 l43 0 s-values) ∷ ‵ (MutSlice (named 6) κ-starts usize .own (ref-starts γ-starts starts) (sliceVal (b-starts, o-starts) (length starts) ∷ [])) ∷ ‵ (MutSlice (named 7) κ-groups usize .own (ref-groups γ-groups groups) (sliceVal (b-groups, o-groups) (length groups) ∷ [])) ∷ ‵ (MutSlice (named 8) κ-tasks usize .own (ref-tasks γ-tasks tasks) (sliceVal (b-tasks, o-tasks) (length tasks) ∷ [])) ∷ ‵ (MutSlice (named 9) κ-top usize .own (ref-top γ-top top) (sliceVal (b-top, o-top) (length top) ∷ [])) ∷ ‵ (MutSlice (named 10) κ-words usize .own (ref-words γ-words words) (sliceVal (b-words, o-words) (length words) ∷ [])) ∷ ‵ (MutSlice (named 11) κ-floats f64 .own (ref-floats γ-floats floats) (sliceVal (b-floats, o-floats) (length floats) ∷ [])) ∷ ‵ (MutSlice (named 12) κ-rows usize .own (ref-rows γ-rows rows) (sliceVal (b-rows, o-rows) (length rows) ∷ [])) ∷ ‵ (MutSlice (named 13) κ-values f64 .own (ref-values γ-values values) (sliceVal (b-values, o-values) (length values) ∷ [])) ∷ ‵ (flft κ-input-starts q-input-starts) ∷ ‵ (flft κ-input-rows q-input-rows) ∷ ‵ (flft κ-input-values q-input-values) ∷ ‵ (flft κ-list q-list) ∷ ‵ (flft κ-starts q-starts) ∷ ‵ (flft κ-groups q-groups) ∷ ‵ (flft κ-tasks q-tasks) ∷ ‵ (flft κ-top q-top) ∷ ‵ (flft κ-words q-words) ∷ ‵ (flft κ-floats q-floats) ∷ ‵ (flft κ-rows q-rows) ∷ ‵ (flft κ-values q-values) ∷ ‵ (froom ty0 l0 0) ∷ ‵ (fat fullShare ty1 l1 0 (vint w64 n)) ∷ ‵ (fat fullShare ty2 l2 0 s-input-starts) ∷ ‵ (fat fullShare ty3 l3 0 s-input-rows) ∷ ‵ (fat fullShare ty4 l4 0 s-input-values) ∷ ‵ (fat fullShare ty5 l5 0 m-order) ∷ ‵ (fat fullShare ty6 l6 0 s-list) ∷ ‵ (fat fullShare ty7 l7 0 m-stop) ∷ ‵ (fat fullShare ty8 l8 0 s-permutation) ∷ ‵ (fat fullShare ty9 l9 0 s-firsts) ∷ ‵ (fat fullShare ty10 l10 0 s-starts) ∷ ‵ (fat fullShare ty11 l11 0 s-groups) ∷ ‵ (fat fullShare ty12 l12 0 s-tasks) ∷ ‵ (fat fullShare ty13 l13 0 s-top) ∷ ‵ (fat fullShare ty14 l14 0 s-words) ∷ ‵ (fat fullShare ty15 l15 0 s-floats) ∷ ‵ (fat fullShare ty16 l16 0 s-rows) ∷ ‵ (fat fullShare ty17 l17 0 s-values) ∷ ‵ (Lies T-Update.the-row 16384 l20 0 updates) ∷ ‵ (froom ty21 l21 0) ∷ []) $
+          w-move ! (37 ∷ 49 ∷ []) $ w-lend ! tt usize κ-starts q-starts γ-starts b-starts o-starts (named 6) (named 6) starts (length starts) refl (λ ν2-10 δ2-10.
+          w-move ! (40 ∷ 51 ∷ []) $ w-lend ! tt usize κ-groups q-groups γ-groups b-groups o-groups (named 7) (named 7) groups (length groups) refl (λ ν2-11 δ2-11.
+          w-move ! (43 ∷ 53 ∷ []) $ w-lend ! tt usize κ-tasks q-tasks γ-tasks b-tasks o-tasks (named 8) (named 8) tasks (length tasks) refl (λ ν2-12 δ2-12.
+          w-written ! (‵ (MutSlice (named 8) (ν2-12 ∷ []) usize .own (ref-tasks δ2-12 tasks) (s-tasks ∷ [])) ∷ ‵ (LentAgain usize κ-tasks (ν2-12 ∷ []) q-tasks γ-tasks b-tasks o-tasks δ2-12 tasks) ∷ ‵ (flft (ν2-12 ∷ []) fullShare) ∷ ‵ (MutSlice (named 7) (ν2-11 ∷ []) usize .own (ref-groups δ2-11 groups) (s-groups ∷ [])) ∷ ‵ (LentAgain usize κ-groups (ν2-11 ∷ []) q-groups γ-groups b-groups o-groups δ2-11 groups) ∷ ‵ (flft (ν2-11 ∷ []) fullShare) ∷ ‵ (MutSlice (named 6) (ν2-10 ∷ []) usize .own (ref-starts δ2-10 starts) (s-starts ∷ [])) ∷ ‵ (LentAgain usize κ-starts (ν2-10 ∷ []) q-starts γ-starts b-starts o-starts δ2-10 starts) ∷ ‵ (flft (ν2-10 ∷ []) fullShare) ∷ ‵ (MutSlice (named 5) (ν2-9 ∷ []) usize .own (ref-firsts δ2-9 firsts) (s-firsts ∷ [])) ∷ ‵ (LentAgain usize κ-firsts (ν2-9 ∷ []) q-firsts γ-firsts b-firsts o-firsts δ2-9 firsts) ∷ ‵ (flft (ν2-9 ∷ []) fullShare) ∷ ‵ (MutSlice (named 4) (ν2-8 ∷ []) usize .own (ref-permutation δ2-8 permutation) (s-permutation ∷ [])) ∷ ‵ (LentAgain usize κ-permutation (ν2-8 ∷ []) q-permutation γ-permutation b-permutation o-permutation δ2-8 permutation) ∷ ‵ (flft (ν2-8 ∷ []) fullShare) ∷ ‵ (ShrSlice (named 3) κ-list usize .own (ref-list γ-list «list») (sliceVal (b-list, o-list) (length «list») ∷ [])) ∷ ‵ (ShrSlice (named 3) κ-list usize .own (ref-list γ-list «list») (sliceVal (b-list, o-list) (length «list») ∷ [])) ∷ ‵ (ShrSlice (named 2) κ-input-values f64 .own (ref-input-values γ-input-values input-values) (sliceVal (b-input-values, o-input-values) (length input-values) ∷ [])) ∷ ‵ (ShrSlice (named 2) κ-input-values f64 .own (ref-input-values γ-input-values input-values) (sliceVal (b-input-values, o-input-values) (length input-values) ∷ [])) ∷ ‵ (ShrSlice (named 1) κ-input-rows usize .own (ref-input-rows γ-input-rows input-rows) (sliceVal (b-input-rows, o-input-rows) (length input-rows) ∷ [])) ∷ ‵ (ShrSlice (named 1) κ-input-rows usize .own (ref-input-rows γ-input-rows input-rows) (sliceVal (b-input-rows, o-input-rows) (length input-rows) ∷ [])) ∷ ‵ (ShrSlice (named 0) κ-input-starts usize .own (ref-input-starts γ-input-starts input-starts) (sliceVal (b-input-starts, o-input-starts) (length input-starts) ∷ [])) ∷ ‵ (ShrSlice (named 0) κ-input-starts usize .own (ref-input-starts γ-input-starts input-starts) (sliceVal (b-input-starts, o-input-starts) (length input-starts) ∷ [])) ∷ raw (Packed 𝓤 H A (‵ (MutSlice (named 14) κ-b f64 .own (ref-b γ-b b) (sliceVal (b-b, o-b) (length b) ∷ [])) ∷ ‵ (flft κ-b q-b) ∷ ‵ (fat fullShare ty18 l18 0 s-b) ∷ ‵ (fat fullShare ty19 l19 0 r1) ∷ ‵ (froom ty44 l44 0) ∷ raw (Packed 𝓤 H A spare3) ∷ raw (Packed 𝓤 H A dying) ∷ [])) ∷ ‵ (fat fullShare ty22 l22 0 (vptr b-permutation o-permutation)) ∷ ‵ (fat fullShare ty23 l23 0 s-permutation) ∷ ‵ (fat fullShare ty24 l24 0 (vptr b-firsts o-firsts)) ∷ ‵ (fat fullShare ty25 l25 0 s-firsts) ∷ ‵ (fat fullShare ty26 l26 0 (vptr b-starts o-starts)) ∷ ‵ (fat fullShare ty27 l27 0 s-starts) ∷ ‵ (fat fullShare ty28 l28 0 (vptr b-groups o-groups)) ∷ ‵ (fat fullShare ty29 l29 0 s-groups) ∷ ‵ (fat fullShare ty30 l30 0 (vptr b-tasks o-tasks)) ∷ ‵ (fat fullShare ty31 l31 0 s-tasks) ∷ ‵ (fat fullShare ty32 l32 0 (vptr b-top o-top)) ∷ ‵ (fat fullShare ty33 l33 0 s-top) ∷ ‵ (fat fullShare ty34 l34 0 (vptr b-words o-words)) ∷ ‵ (fat fullShare ty35 l35 0 s-words) ∷ ‵ (fat fullShare ty36 l36 0 (vptr b-floats o-floats)) ∷ ‵ (fat fullShare ty37 l37 0 s-floats) ∷ ‵ (fat fullShare ty38 l38 0 (vptr b-rows o-rows)) ∷ ‵ (fat fullShare ty39 l39 0 s-rows) ∷ ‵ (fat fullShare ty40 l40 0 (vptr l20 0)) ∷ ‵ (fat fullShare ty41 l41 0 (sliceVal (l20, 0) (length updates))) ∷ ‵ (fat fullShare ty42 l42 0 (vptr b-values o-values)) ∷ ‵ (fat fullShare ty43 l43 0 s-values) ∷ ‵ (MutSlice (named 9) κ-top usize .own (ref-top γ-top top) (sliceVal (b-top, o-top) (length top) ∷ [])) ∷ ‵ (MutSlice (named 10) κ-words usize .own (ref-words γ-words words) (sliceVal (b-words, o-words) (length words) ∷ [])) ∷ ‵ (MutSlice (named 11) κ-floats f64 .own (ref-floats γ-floats floats) (sliceVal (b-floats, o-floats) (length floats) ∷ [])) ∷ ‵ (MutSlice (named 12) κ-rows usize .own (ref-rows γ-rows rows) (sliceVal (b-rows, o-rows) (length rows) ∷ [])) ∷ ‵ (MutSlice (named 13) κ-values f64 .own (ref-values γ-values values) (sliceVal (b-values, o-values) (length values) ∷ [])) ∷ ‵ (flft κ-input-starts q-input-starts) ∷ ‵ (flft κ-input-rows q-input-rows) ∷ ‵ (flft κ-input-values q-input-values) ∷ ‵ (flft κ-list q-list) ∷ ‵ (flft κ-top q-top) ∷ ‵ (flft κ-words q-words) ∷ ‵ (flft κ-floats q-floats) ∷ ‵ (flft κ-rows q-rows) ∷ ‵ (flft κ-values q-values) ∷ ‵ (froom ty0 l0 0) ∷ ‵ (fat fullShare ty1 l1 0 (vint w64 n)) ∷ ‵ (fat fullShare ty2 l2 0 s-input-starts) ∷ ‵ (fat fullShare ty3 l3 0 s-input-rows) ∷ ‵ (fat fullShare ty4 l4 0 s-input-values) ∷ ‵ (fat fullShare ty5 l5 0 m-order) ∷ ‵ (fat fullShare ty6 l6 0 s-list) ∷ ‵ (fat fullShare ty7 l7 0 m-stop) ∷ ‵ (fat fullShare ty8 l8 0 s-permutation) ∷ ‵ (fat fullShare ty9 l9 0 s-firsts) ∷ ‵ (fat fullShare ty10 l10 0 s-starts) ∷ ‵ (fat fullShare ty11 l11 0 s-groups) ∷ ‵ (fat fullShare ty12 l12 0 s-tasks) ∷ ‵ (fat fullShare ty13 l13 0 s-top) ∷ ‵ (fat fullShare ty14 l14 0 s-words) ∷ ‵ (fat fullShare ty15 l15 0 s-floats) ∷ ‵ (fat fullShare ty16 l16 0 s-rows) ∷ ‵ (fat fullShare ty17 l17 0 s-values) ∷ ‵ (Lies T-Update.the-row 16384 l20 0 updates) ∷ ‵ (froom ty21 l21 0) ∷ []) $
+          w-move ! (46 ∷ 55 ∷ []) $ w-lend ! tt usize κ-top q-top γ-top b-top o-top (named 9) (named 9) top (length top) refl (λ ν2-13 δ2-13.
+          w-move ! (49 ∷ 57 ∷ []) $ w-lend ! tt usize κ-words q-words γ-words b-words o-words (named 10) (named 10) words (length words) refl (λ ν2-14 δ2-14.
+          w-move ! (52 ∷ 59 ∷ []) $ w-lend ! tt f64 κ-floats q-floats γ-floats b-floats o-floats (named 11) (named 11) floats (length floats) refl (λ ν2-15 δ2-15.
+          w-written ! (‵ (MutSlice (named 11) (ν2-15 ∷ []) f64 .own (ref-floats δ2-15 floats) (s-floats ∷ [])) ∷ ‵ (LentAgain f64 κ-floats (ν2-15 ∷ []) q-floats γ-floats b-floats o-floats δ2-15 floats) ∷ ‵ (flft (ν2-15 ∷ []) fullShare) ∷ ‵ (MutSlice (named 10) (ν2-14 ∷ []) usize .own (ref-words δ2-14 words) (s-words ∷ [])) ∷ ‵ (LentAgain usize κ-words (ν2-14 ∷ []) q-words γ-words b-words o-words δ2-14 words) ∷ ‵ (flft (ν2-14 ∷ []) fullShare) ∷ ‵ (MutSlice (named 9) (ν2-13 ∷ []) usize .own (ref-top δ2-13 top) (s-top ∷ [])) ∷ ‵ (LentAgain usize κ-top (ν2-13 ∷ []) q-top γ-top b-top o-top δ2-13 top) ∷ ‵ (flft (ν2-13 ∷ []) fullShare) ∷ ‵ (MutSlice (named 8) (ν2-12 ∷ []) usize .own (ref-tasks δ2-12 tasks) (s-tasks ∷ [])) ∷ ‵ (LentAgain usize κ-tasks (ν2-12 ∷ []) q-tasks γ-tasks b-tasks o-tasks δ2-12 tasks) ∷ ‵ (flft (ν2-12 ∷ []) fullShare) ∷ ‵ (MutSlice (named 7) (ν2-11 ∷ []) usize .own (ref-groups δ2-11 groups) (s-groups ∷ [])) ∷ ‵ (LentAgain usize κ-groups (ν2-11 ∷ []) q-groups γ-groups b-groups o-groups δ2-11 groups) ∷ ‵ (flft (ν2-11 ∷ []) fullShare) ∷ ‵ (MutSlice (named 6) (ν2-10 ∷ []) usize .own (ref-starts δ2-10 starts) (s-starts ∷ [])) ∷ ‵ (LentAgain usize κ-starts (ν2-10 ∷ []) q-starts γ-starts b-starts o-starts δ2-10 starts) ∷ ‵ (flft (ν2-10 ∷ []) fullShare) ∷ ‵ (MutSlice (named 5) (ν2-9 ∷ []) usize .own (ref-firsts δ2-9 firsts) (s-firsts ∷ [])) ∷ ‵ (LentAgain usize κ-firsts (ν2-9 ∷ []) q-firsts γ-firsts b-firsts o-firsts δ2-9 firsts) ∷ ‵ (flft (ν2-9 ∷ []) fullShare) ∷ ‵ (MutSlice (named 4) (ν2-8 ∷ []) usize .own (ref-permutation δ2-8 permutation) (s-permutation ∷ [])) ∷ ‵ (LentAgain usize κ-permutation (ν2-8 ∷ []) q-permutation γ-permutation b-permutation o-permutation δ2-8 permutation) ∷ ‵ (flft (ν2-8 ∷ []) fullShare) ∷ ‵ (ShrSlice (named 3) κ-list usize .own (ref-list γ-list «list») (sliceVal (b-list, o-list) (length «list») ∷ [])) ∷ ‵ (ShrSlice (named 3) κ-list usize .own (ref-list γ-list «list») (sliceVal (b-list, o-list) (length «list») ∷ [])) ∷ ‵ (ShrSlice (named 2) κ-input-values f64 .own (ref-input-values γ-input-values input-values) (sliceVal (b-input-values, o-input-values) (length input-values) ∷ [])) ∷ ‵ (ShrSlice (named 2) κ-input-values f64 .own (ref-input-values γ-input-values input-values) (sliceVal (b-input-values, o-input-values) (length input-values) ∷ [])) ∷ ‵ (ShrSlice (named 1) κ-input-rows usize .own (ref-input-rows γ-input-rows input-rows) (sliceVal (b-input-rows, o-input-rows) (length input-rows) ∷ [])) ∷ ‵ (ShrSlice (named 1) κ-input-rows usize .own (ref-input-rows γ-input-rows input-rows) (sliceVal (b-input-rows, o-input-rows) (length input-rows) ∷ [])) ∷ ‵ (ShrSlice (named 0) κ-input-starts usize .own (ref-input-starts γ-input-starts input-starts) (sliceVal (b-input-starts, o-input-starts) (length input-starts) ∷ [])) ∷ ‵ (ShrSlice (named 0) κ-input-starts usize .own (ref-input-starts γ-input-starts input-starts) (sliceVal (b-input-starts, o-input-starts) (length input-starts) ∷ [])) ∷ raw (Packed 𝓤 H A (‵ (MutSlice (named 14) κ-b f64 .own (ref-b γ-b b) (sliceVal (b-b, o-b) (length b) ∷ [])) ∷ ‵ (flft κ-b q-b) ∷ ‵ (fat fullShare ty18 l18 0 s-b) ∷ ‵ (fat fullShare ty19 l19 0 r1) ∷ ‵ (froom ty44 l44 0) ∷ raw (Packed 𝓤 H A spare3) ∷ raw (Packed 𝓤 H A dying) ∷ [])) ∷ ‵ (fat fullShare ty22 l22 0 (vptr b-permutation o-permutation)) ∷ ‵ (fat fullShare ty23 l23 0 s-permutation) ∷ ‵ (fat fullShare ty24 l24 0 (vptr b-firsts o-firsts)) ∷ ‵ (fat fullShare ty25 l25 0 s-firsts) ∷ ‵ (fat fullShare ty26 l26 0 (vptr b-starts o-starts)) ∷ ‵ (fat fullShare ty27 l27 0 s-starts) ∷ ‵ (fat fullShare ty28 l28 0 (vptr b-groups o-groups)) ∷ ‵ (fat fullShare ty29 l29 0 s-groups) ∷ ‵ (fat fullShare ty30 l30 0 (vptr b-tasks o-tasks)) ∷ ‵ (fat fullShare ty31 l31 0 s-tasks) ∷ ‵ (fat fullShare ty32 l32 0 (vptr b-top o-top)) ∷ ‵ (fat fullShare ty33 l33 0 s-top) ∷ ‵ (fat fullShare ty34 l34 0 (vptr b-words o-words)) ∷ ‵ (fat fullShare ty35 l35 0 s-words) ∷ ‵ (fat fullShare ty36 l36 0 (vptr b-floats o-floats)) ∷ ‵ (fat fullShare ty37 l37 0 s-floats) ∷ ‵ (fat fullShare ty38 l38 0 (vptr b-rows o-rows)) ∷ ‵ (fat fullShare ty39 l39 0 s-rows) ∷ ‵ (fat fullShare ty40 l40 0 (vptr l20 0)) ∷ ‵ (fat fullShare ty41 l41 0 (sliceVal (l20, 0) (length updates))) ∷ ‵ (fat fullShare ty42 l42 0 (vptr b-values o-values)) ∷ ‵ (fat fullShare ty43 l43 0 s-values) ∷ ‵ (MutSlice (named 12) κ-rows usize .own (ref-rows γ-rows rows) (sliceVal (b-rows, o-rows) (length rows) ∷ [])) ∷ ‵ (MutSlice (named 13) κ-values f64 .own (ref-values γ-values values) (sliceVal (b-values, o-values) (length values) ∷ [])) ∷ ‵ (flft κ-input-starts q-input-starts) ∷ ‵ (flft κ-input-rows q-input-rows) ∷ ‵ (flft κ-input-values q-input-values) ∷ ‵ (flft κ-list q-list) ∷ ‵ (flft κ-rows q-rows) ∷ ‵ (flft κ-values q-values) ∷ ‵ (froom ty0 l0 0) ∷ ‵ (fat fullShare ty1 l1 0 (vint w64 n)) ∷ ‵ (fat fullShare ty2 l2 0 s-input-starts) ∷ ‵ (fat fullShare ty3 l3 0 s-input-rows) ∷ ‵ (fat fullShare ty4 l4 0 s-input-values) ∷ ‵ (fat fullShare ty5 l5 0 m-order) ∷ ‵ (fat fullShare ty6 l6 0 s-list) ∷ ‵ (fat fullShare ty7 l7 0 m-stop) ∷ ‵ (fat fullShare ty8 l8 0 s-permutation) ∷ ‵ (fat fullShare ty9 l9 0 s-firsts) ∷ ‵ (fat fullShare ty10 l10 0 s-starts) ∷ ‵ (fat fullShare ty11 l11 0 s-groups) ∷ ‵ (fat fullShare ty12 l12 0 s-tasks) ∷ ‵ (fat fullShare ty13 l13 0 s-top) ∷ ‵ (fat fullShare ty14 l14 0 s-words) ∷ ‵ (fat fullShare ty15 l15 0 s-floats) ∷ ‵ (fat fullShare ty16 l16 0 s-rows) ∷ ‵ (fat fullShare ty17 l17 0 s-values) ∷ ‵ (Lies T-Update.the-row 16384 l20 0 updates) ∷ ‵ (froom ty21 l21 0) ∷ []) $
+          w-move ! (55 ∷ 61 ∷ []) $ w-lend ! tt usize κ-rows q-rows γ-rows b-rows o-rows (named 12) (named 12) rows (length rows) refl (λ ν2-16 δ2-16.
           w-lft-new ! tt (λ ν2-17. w-move ! (83 ∷ []) $ use1 W (later (some (λ (δ : GName). ‵ (MutSlice (named 13) (ν2-17 ∷ []) T-Update.the-row .own (ref-updates l20 δ updates) (sliceVal (l20, 0) (length updates) ∷ [])) ⊛ ‵ (LentOwned T-Update.the-row (ν2-17 ∷ []) l20 0 δ updates)))) (lends-owned 𝓤 H A W T-Update.the-row tt 16384 l20 0 (ν2-17 ∷ []) (named 13) updates room-updates size-updates) $ w-await ! tt $ w-pick ! (λ δ2-17. w-split ! $
-          w-lft-new ! tt (λ ν2-18. w-move ! (62 ∷ 67 ∷ []) $ use2 W (later (some (λ (δ : GName). ‵ (MutSlice (named 14) (ν2-18 ∷ []) f64 .own (ref-values δ values) (sliceVal (b-values, o-values) (length values) ∷ [])) ⊛ ‵ (LentAgain f64 κ-values (ν2-18 ∷ []) q-values γ-values b-values o-values δ values)))) (lends-again f64 κ-values (ν2-18 ∷ []) q-values γ-values b-values o-values 𝓤 H A W (named 13) (named 14) values) $ w-await ! tt $ w-pick ! (λ δ2-18. w-split ! $
+          w-move ! (61 ∷ 66 ∷ []) $ w-lend ! tt f64 κ-values q-values γ-values b-values o-values (named 13) (named 14) values (length values) refl (λ ν2-18 δ2-18.
+          w-written ! (‵ (MutSlice (named 14) (ν2-18 ∷ []) f64 .own (ref-values δ2-18 values) (s-values ∷ [])) ∷ ‵ (LentAgain f64 κ-values (ν2-18 ∷ []) q-values γ-values b-values o-values δ2-18 values) ∷ ‵ (flft (ν2-18 ∷ []) fullShare) ∷ ‵ (MutSlice (named 13) (ν2-17 ∷ []) T-Update.the-row .own (ref-updates l20 δ2-17 updates) (sliceVal (l20, 0) (length updates) ∷ [])) ∷ ‵ (LentOwned T-Update.the-row (ν2-17 ∷ []) l20 0 δ2-17 updates) ∷ ‵ (flft (ν2-17 ∷ []) fullShare) ∷ ‵ (MutSlice (named 12) (ν2-16 ∷ []) usize .own (ref-rows δ2-16 rows) (s-rows ∷ [])) ∷ ‵ (LentAgain usize κ-rows (ν2-16 ∷ []) q-rows γ-rows b-rows o-rows δ2-16 rows) ∷ ‵ (flft (ν2-16 ∷ []) fullShare) ∷ ‵ (MutSlice (named 11) (ν2-15 ∷ []) f64 .own (ref-floats δ2-15 floats) (s-floats ∷ [])) ∷ ‵ (LentAgain f64 κ-floats (ν2-15 ∷ []) q-floats γ-floats b-floats o-floats δ2-15 floats) ∷ ‵ (flft (ν2-15 ∷ []) fullShare) ∷ ‵ (MutSlice (named 10) (ν2-14 ∷ []) usize .own (ref-words δ2-14 words) (s-words ∷ [])) ∷ ‵ (LentAgain usize κ-words (ν2-14 ∷ []) q-words γ-words b-words o-words δ2-14 words) ∷ ‵ (flft (ν2-14 ∷ []) fullShare) ∷ ‵ (MutSlice (named 9) (ν2-13 ∷ []) usize .own (ref-top δ2-13 top) (s-top ∷ [])) ∷ ‵ (LentAgain usize κ-top (ν2-13 ∷ []) q-top γ-top b-top o-top δ2-13 top) ∷ ‵ (flft (ν2-13 ∷ []) fullShare) ∷ ‵ (MutSlice (named 8) (ν2-12 ∷ []) usize .own (ref-tasks δ2-12 tasks) (s-tasks ∷ [])) ∷ ‵ (LentAgain usize κ-tasks (ν2-12 ∷ []) q-tasks γ-tasks b-tasks o-tasks δ2-12 tasks) ∷ ‵ (flft (ν2-12 ∷ []) fullShare) ∷ ‵ (MutSlice (named 7) (ν2-11 ∷ []) usize .own (ref-groups δ2-11 groups) (s-groups ∷ [])) ∷ ‵ (LentAgain usize κ-groups (ν2-11 ∷ []) q-groups γ-groups b-groups o-groups δ2-11 groups) ∷ ‵ (flft (ν2-11 ∷ []) fullShare) ∷ ‵ (MutSlice (named 6) (ν2-10 ∷ []) usize .own (ref-starts δ2-10 starts) (s-starts ∷ [])) ∷ ‵ (LentAgain usize κ-starts (ν2-10 ∷ []) q-starts γ-starts b-starts o-starts δ2-10 starts) ∷ ‵ (flft (ν2-10 ∷ []) fullShare) ∷ ‵ (MutSlice (named 5) (ν2-9 ∷ []) usize .own (ref-firsts δ2-9 firsts) (s-firsts ∷ [])) ∷ ‵ (LentAgain usize κ-firsts (ν2-9 ∷ []) q-firsts γ-firsts b-firsts o-firsts δ2-9 firsts) ∷ ‵ (flft (ν2-9 ∷ []) fullShare) ∷ ‵ (MutSlice (named 4) (ν2-8 ∷ []) usize .own (ref-permutation δ2-8 permutation) (s-permutation ∷ [])) ∷ ‵ (LentAgain usize κ-permutation (ν2-8 ∷ []) q-permutation γ-permutation b-permutation o-permutation δ2-8 permutation) ∷ ‵ (flft (ν2-8 ∷ []) fullShare) ∷ ‵ (ShrSlice (named 3) κ-list usize .own (ref-list γ-list «list») (sliceVal (b-list, o-list) (length «list») ∷ [])) ∷ ‵ (ShrSlice (named 3) κ-list usize .own (ref-list γ-list «list») (sliceVal (b-list, o-list) (length «list») ∷ [])) ∷ ‵ (ShrSlice (named 2) κ-input-values f64 .own (ref-input-values γ-input-values input-values) (sliceVal (b-input-values, o-input-values) (length input-values) ∷ [])) ∷ ‵ (ShrSlice (named 2) κ-input-values f64 .own (ref-input-values γ-input-values input-values) (sliceVal (b-input-values, o-input-values) (length input-values) ∷ [])) ∷ ‵ (ShrSlice (named 1) κ-input-rows usize .own (ref-input-rows γ-input-rows input-rows) (sliceVal (b-input-rows, o-input-rows) (length input-rows) ∷ [])) ∷ ‵ (ShrSlice (named 1) κ-input-rows usize .own (ref-input-rows γ-input-rows input-rows) (sliceVal (b-input-rows, o-input-rows) (length input-rows) ∷ [])) ∷ ‵ (ShrSlice (named 0) κ-input-starts usize .own (ref-input-starts γ-input-starts input-starts) (sliceVal (b-input-starts, o-input-starts) (length input-starts) ∷ [])) ∷ ‵ (ShrSlice (named 0) κ-input-starts usize .own (ref-input-starts γ-input-starts input-starts) (sliceVal (b-input-starts, o-input-starts) (length input-starts) ∷ [])) ∷ raw (Packed 𝓤 H A (‵ (MutSlice (named 14) κ-b f64 .own (ref-b γ-b b) (sliceVal (b-b, o-b) (length b) ∷ [])) ∷ ‵ (flft κ-b q-b) ∷ ‵ (fat fullShare ty18 l18 0 s-b) ∷ ‵ (fat fullShare ty19 l19 0 r1) ∷ ‵ (froom ty44 l44 0) ∷ raw (Packed 𝓤 H A spare3) ∷ raw (Packed 𝓤 H A dying) ∷ [])) ∷ ‵ (fat fullShare ty22 l22 0 (vptr b-permutation o-permutation)) ∷ ‵ (fat fullShare ty23 l23 0 s-permutation) ∷ ‵ (fat fullShare ty24 l24 0 (vptr b-firsts o-firsts)) ∷ ‵ (fat fullShare ty25 l25 0 s-firsts) ∷ ‵ (fat fullShare ty26 l26 0 (vptr b-starts o-starts)) ∷ ‵ (fat fullShare ty27 l27 0 s-starts) ∷ ‵ (fat fullShare ty28 l28 0 (vptr b-groups o-groups)) ∷ ‵ (fat fullShare ty29 l29 0 s-groups) ∷ ‵ (fat fullShare ty30 l30 0 (vptr b-tasks o-tasks)) ∷ ‵ (fat fullShare ty31 l31 0 s-tasks) ∷ ‵ (fat fullShare ty32 l32 0 (vptr b-top o-top)) ∷ ‵ (fat fullShare ty33 l33 0 s-top) ∷ ‵ (fat fullShare ty34 l34 0 (vptr b-words o-words)) ∷ ‵ (fat fullShare ty35 l35 0 s-words) ∷ ‵ (fat fullShare ty36 l36 0 (vptr b-floats o-floats)) ∷ ‵ (fat fullShare ty37 l37 0 s-floats) ∷ ‵ (fat fullShare ty38 l38 0 (vptr b-rows o-rows)) ∷ ‵ (fat fullShare ty39 l39 0 s-rows) ∷ ‵ (fat fullShare ty40 l40 0 (vptr l20 0)) ∷ ‵ (fat fullShare ty41 l41 0 (sliceVal (l20, 0) (length updates))) ∷ ‵ (fat fullShare ty42 l42 0 (vptr b-values o-values)) ∷ ‵ (fat fullShare ty43 l43 0 s-values) ∷ ‵ (flft κ-input-starts q-input-starts) ∷ ‵ (flft κ-input-rows q-input-rows) ∷ ‵ (flft κ-input-values q-input-values) ∷ ‵ (flft κ-list q-list) ∷ ‵ (froom ty0 l0 0) ∷ ‵ (fat fullShare ty1 l1 0 (vint w64 n)) ∷ ‵ (fat fullShare ty2 l2 0 s-input-starts) ∷ ‵ (fat fullShare ty3 l3 0 s-input-rows) ∷ ‵ (fat fullShare ty4 l4 0 s-input-values) ∷ ‵ (fat fullShare ty5 l5 0 m-order) ∷ ‵ (fat fullShare ty6 l6 0 s-list) ∷ ‵ (fat fullShare ty7 l7 0 m-stop) ∷ ‵ (fat fullShare ty8 l8 0 s-permutation) ∷ ‵ (fat fullShare ty9 l9 0 s-firsts) ∷ ‵ (fat fullShare ty10 l10 0 s-starts) ∷ ‵ (fat fullShare ty11 l11 0 s-groups) ∷ ‵ (fat fullShare ty12 l12 0 s-tasks) ∷ ‵ (fat fullShare ty13 l13 0 s-top) ∷ ‵ (fat fullShare ty14 l14 0 s-words) ∷ ‵ (fat fullShare ty15 l15 0 s-floats) ∷ ‵ (fat fullShare ty16 l16 0 s-rows) ∷ ‵ (fat fullShare ty17 l17 0 s-values) ∷ ‵ (froom ty21 l21 0) ∷ []) $
           w-nothing ! $ w-move ! (1 ∷ 0 ∷ []) $ w-fjoin ! $ w-move ! (3 ∷ 0 ∷ []) $ w-fjoin ! $ w-move ! (5 ∷ 0 ∷ []) $ w-fjoin ! $ w-move ! (7 ∷ 0 ∷ []) $ w-fjoin ! $ w-move ! (9 ∷ 0 ∷ []) $ w-fjoin ! $ w-move ! (11 ∷ 0 ∷ []) $ w-fjoin ! $ w-move ! (13 ∷ 0 ∷ []) $ w-fjoin ! $ w-move ! (15 ∷ 0 ∷ []) $ w-fjoin ! $ w-move ! (17 ∷ 0 ∷ []) $ w-fjoin ! $ w-move ! (19 ∷ 0 ∷ []) $ w-fjoin ! $ w-move ! (21 ∷ 0 ∷ []) $ w-fjoin ! $ w-owned ! T-Stop.the-row (Is T-Stop.the-row) (EL.makes T-Stop.the-type L-Stop.the-plain 𝓤 H A) stop _ is-stop $ w-fjoin ! $ w-move ! (23 ∷ 0 ∷ []) $ w-fjoin ! $ w-owned ! T-Order.the-row (Is T-Order.the-row) (EL.makes T-Order.the-type L-Order.the-plain 𝓤 H A) order _ is-order $ w-fjoin ! $ w-owned ! usize (Is usize) (uint-makes 𝓤 H A W w64) 18446744073709551615 _ ((refl, lit< tt)) $ w-fjoin ! $ w-move ! (24 ∷ 0 ∷ []) $ w-fjoin ! $ w-move ! (25 ∷ 0 ∷ []) $ w-fjoin ! $ w-move ! (26 ∷ 0 ∷ []) $ w-fjoin ! $ w-owned ! usize (Is usize) (uint-makes 𝓤 H A W w64) n _ ((refl, fits-n)) $ w-fjoin ! $
           w-nothing ! $ w-move ! (3 ∷ 0 ∷ []) $ w-join ! $ w-move ! (4 ∷ 0 ∷ []) $ w-join ! $ w-move ! (5 ∷ 0 ∷ []) $ w-join ! $ w-move ! (6 ∷ 0 ∷ []) $ w-join ! $ w-move ! (7 ∷ 0 ∷ []) $ w-join ! $ w-move ! (8 ∷ 0 ∷ []) $ w-join ! $ w-move ! (9 ∷ 0 ∷ []) $ w-join ! $ w-move ! (10 ∷ 0 ∷ []) $ w-join ! $ w-move ! (11 ∷ 0 ∷ []) $ w-join ! $ w-move ! (12 ∷ 0 ∷ []) $ w-join ! $ w-move ! (13 ∷ 0 ∷ []) $ w-join ! $ w-move ! (43 ∷ 0 ∷ []) $ w-join ! $ w-move ! (42 ∷ 0 ∷ []) $ w-join ! $ w-move ! (41 ∷ 0 ∷ []) $ w-join ! $ w-move ! (40 ∷ 0 ∷ []) $ w-join ! $
-          use2 W (raw (C-factor 𝓤 H A mem run .pre (((κ-input-starts, (κ-input-rows, (κ-input-values, (κ-list, (ν2-8 ∷ [], (ν2-9 ∷ [], (ν2-10 ∷ [], (ν2-11 ∷ [], (ν2-12 ∷ [], (ν2-13 ∷ [], (ν2-14 ∷ [], (ν2-15 ∷ [], (ν2-16 ∷ [], (ν2-17 ∷ [], (ν2-18 ∷ [], tt))))))))))))))), (q-input-starts, (q-input-rows, (q-input-values, (q-list, (fullShare, (fullShare, (fullShare, (fullShare, (fullShare, (fullShare, (fullShare, (fullShare, (fullShare, (fullShare, (fullShare, tt))))))))))))))), tt, (n, (ref-input-starts γ-input-starts input-starts, (ref-input-rows γ-input-rows input-rows, (ref-input-values γ-input-values input-values, (18446744073709551615, (order, (ref-list γ-list «list», (stop, (ref-permutation δ2-8 permutation, (ref-firsts δ2-9 firsts, (ref-starts δ2-10 starts, (ref-groups δ2-11 groups, (ref-tasks δ2-12 tasks, (ref-top δ2-13 top, (ref-words δ2-14 words, (ref-floats δ2-15 floats, (ref-rows δ2-16 rows, (ref-updates l20 δ2-17 updates, (ref-values δ2-18 values, tt))))))))))))))))))), (vint w64 n ∷ [], (sliceVal (b-input-starts, o-input-starts) (length input-starts) ∷ [], (sliceVal (b-input-rows, o-input-rows) (length input-rows) ∷ [], (sliceVal (b-input-values, o-input-values) (length input-values) ∷ [], (vint w64 18446744073709551615 ∷ [], (m-order ∷ [], (sliceVal (b-list, o-list) (length «list») ∷ [], (m-stop ∷ [], (sliceVal (b-permutation, o-permutation) (length permutation) ∷ [], (sliceVal (b-firsts, o-firsts) (length firsts) ∷ [], (sliceVal (b-starts, o-starts) (length starts) ∷ [], (sliceVal (b-groups, o-groups) (length groups) ∷ [], (sliceVal (b-tasks, o-tasks) (length tasks) ∷ [], (sliceVal (b-top, o-top) (length top) ∷ [], (sliceVal (b-words, o-words) (length words) ∷ [], (sliceVal (b-floats, o-floats) (length floats) ∷ [], (sliceVal (b-rows, o-rows) (length rows) ∷ [], (sliceVal (l20, 0) (length updates) ∷ [], (sliceVal (b-values, o-values) (length values) ∷ [], tt)))))))))))))))))))), tt))) (asked2 u1 r1 is1 d1 updates made-updates size-updates l20 ν2-8 δ2-8 ν2-9 δ2-9 ν2-10 δ2-10 ν2-11 δ2-11 ν2-12 δ2-12 ν2-13 δ2-13 ν2-14 δ2-14 ν2-15 δ2-15 ν2-16 δ2-16 ν2-17 δ2-17 ν2-18 δ2-18) $
-          w-calls-at ! fm (C-factor 𝓤 H A mem run) known-factor (((κ-input-starts, (κ-input-rows, (κ-input-values, (κ-list, (ν2-8 ∷ [], (ν2-9 ∷ [], (ν2-10 ∷ [], (ν2-11 ∷ [], (ν2-12 ∷ [], (ν2-13 ∷ [], (ν2-14 ∷ [], (ν2-15 ∷ [], (ν2-16 ∷ [], (ν2-17 ∷ [], (ν2-18 ∷ [], tt))))))))))))))), (q-input-starts, (q-input-rows, (q-input-values, (q-list, (fullShare, (fullShare, (fullShare, (fullShare, (fullShare, (fullShare, (fullShare, (fullShare, (fullShare, (fullShare, (fullShare, tt))))))))))))))), tt, (n, (ref-input-starts γ-input-starts input-starts, (ref-input-rows γ-input-rows input-rows, (ref-input-values γ-input-values input-values, (18446744073709551615, (order, (ref-list γ-list «list», (stop, (ref-permutation δ2-8 permutation, (ref-firsts δ2-9 firsts, (ref-starts δ2-10 starts, (ref-groups δ2-11 groups, (ref-tasks δ2-12 tasks, (ref-top δ2-13 top, (ref-words δ2-14 words, (ref-floats δ2-15 floats, (ref-rows δ2-16 rows, (ref-updates l20 δ2-17 updates, (ref-values δ2-18 values, tt))))))))))))))))))), (vint w64 n ∷ [], (sliceVal (b-input-starts, o-input-starts) (length input-starts) ∷ [], (sliceVal (b-input-rows, o-input-rows) (length input-rows) ∷ [], (sliceVal (b-input-values, o-input-values) (length input-values) ∷ [], (vint w64 18446744073709551615 ∷ [], (m-order ∷ [], (sliceVal (b-list, o-list) (length «list») ∷ [], (m-stop ∷ [], (sliceVal (b-permutation, o-permutation) (length permutation) ∷ [], (sliceVal (b-firsts, o-firsts) (length firsts) ∷ [], (sliceVal (b-starts, o-starts) (length starts) ∷ [], (sliceVal (b-groups, o-groups) (length groups) ∷ [], (sliceVal (b-tasks, o-tasks) (length tasks) ∷ [], (sliceVal (b-top, o-top) (length top) ∷ [], (sliceVal (b-words, o-words) (length words) ∷ [], (sliceVal (b-floats, o-floats) (length floats) ∷ [], (sliceVal (b-rows, o-rows) (length rows) ∷ [], (sliceVal (l20, 0) (length updates) ∷ [], (sliceVal (b-values, o-values) (length values) ∷ [], tt)))))))))))))))))))), tt) (w-and-then ! (w-load ! (w-from ! (w-stop !)) (w-look ! 40 refl)) (w-and-then ! (w-load ! (w-from ! (w-stop !)) (w-look ! 41 refl)) (w-and-then ! (w-load ! (w-from ! (w-stop !)) (w-look ! 42 refl)) (w-and-then ! (w-load ! (w-from ! (w-stop !)) (w-look ! 43 refl)) (w-and-then ! (w-neg-lit ! tt) (w-and-then ! (w-load ! (w-from ! (w-stop !)) (w-look ! 44 refl)) (w-and-then ! (w-load ! (w-from ! (w-stop !)) (w-look ! 45 refl)) (w-and-then ! (w-load ! (w-from ! (w-stop !)) (w-look ! 46 refl)) (w-and-then ! (w-load ! (w-from ! (w-stop !)) (w-look ! 18 refl)) (w-and-then ! (w-load ! (w-from ! (w-stop !)) (w-look ! 20 refl)) (w-and-then ! (w-load ! (w-from ! (w-stop !)) (w-look ! 22 refl)) (w-and-then ! (w-load ! (w-from ! (w-stop !)) (w-look ! 24 refl)) (w-and-then ! (w-load ! (w-from ! (w-stop !)) (w-look ! 26 refl)) (w-and-then ! (w-load ! (w-from ! (w-stop !)) (w-look ! 28 refl)) (w-and-then ! (w-load ! (w-from ! (w-stop !)) (w-look ! 30 refl)) (w-and-then ! (w-load ! (w-from ! (w-stop !)) (w-look ! 32 refl)) (w-and-then ! (w-load ! (w-from ! (w-stop !)) (w-look ! 34 refl)) (w-and-then ! (w-load ! (w-from ! (w-stop !)) (w-look ! 36 refl)) (w-and-then ! (w-load ! (w-from ! (w-stop !)) (w-look ! 38 refl)) (w-no-more !)))))))))))))))))))) (λ r2.
+          use2 W (raw (C-factor 𝓤 H A mem run .pre (((κ-input-starts, (κ-input-rows, (κ-input-values, (κ-list, (ν2-8 ∷ [], (ν2-9 ∷ [], (ν2-10 ∷ [], (ν2-11 ∷ [], (ν2-12 ∷ [], (ν2-13 ∷ [], (ν2-14 ∷ [], (ν2-15 ∷ [], (ν2-16 ∷ [], (ν2-17 ∷ [], (ν2-18 ∷ [], tt))))))))))))))), (q-input-starts, (q-input-rows, (q-input-values, (q-list, (fullShare, (fullShare, (fullShare, (fullShare, (fullShare, (fullShare, (fullShare, (fullShare, (fullShare, (fullShare, (fullShare, tt))))))))))))))), tt, (n, (ref-input-starts γ-input-starts input-starts, (ref-input-rows γ-input-rows input-rows, (ref-input-values γ-input-values input-values, (18446744073709551615, (order, (ref-list γ-list «list», (stop, (ref-permutation δ2-8 permutation, (ref-firsts δ2-9 firsts, (ref-starts δ2-10 starts, (ref-groups δ2-11 groups, (ref-tasks δ2-12 tasks, (ref-top δ2-13 top, (ref-words δ2-14 words, (ref-floats δ2-15 floats, (ref-rows δ2-16 rows, (ref-updates l20 δ2-17 updates, (ref-values δ2-18 values, tt))))))))))))))))))), (vint w64 n ∷ [], (s-input-starts ∷ [], (s-input-rows ∷ [], (s-input-values ∷ [], (vint w64 18446744073709551615 ∷ [], (m-order ∷ [], (s-list ∷ [], (m-stop ∷ [], (s-permutation ∷ [], (s-firsts ∷ [], (s-starts ∷ [], (s-groups ∷ [], (s-tasks ∷ [], (s-top ∷ [], (s-words ∷ [], (s-floats ∷ [], (s-rows ∷ [], (sliceVal (l20, 0) (length updates) ∷ [], (s-values ∷ [], tt)))))))))))))))))))), tt))) (asked2 u1 r1 is1 d1 updates made-updates size-updates l20 ν2-8 δ2-8 ν2-9 δ2-9 ν2-10 δ2-10 ν2-11 δ2-11 ν2-12 δ2-12 ν2-13 δ2-13 ν2-14 δ2-14 ν2-15 δ2-15 ν2-16 δ2-16 ν2-17 δ2-17 ν2-18 δ2-18) $
+          w-calls-at ! fm (C-factor 𝓤 H A mem run) known-factor (((κ-input-starts, (κ-input-rows, (κ-input-values, (κ-list, (ν2-8 ∷ [], (ν2-9 ∷ [], (ν2-10 ∷ [], (ν2-11 ∷ [], (ν2-12 ∷ [], (ν2-13 ∷ [], (ν2-14 ∷ [], (ν2-15 ∷ [], (ν2-16 ∷ [], (ν2-17 ∷ [], (ν2-18 ∷ [], tt))))))))))))))), (q-input-starts, (q-input-rows, (q-input-values, (q-list, (fullShare, (fullShare, (fullShare, (fullShare, (fullShare, (fullShare, (fullShare, (fullShare, (fullShare, (fullShare, (fullShare, tt))))))))))))))), tt, (n, (ref-input-starts γ-input-starts input-starts, (ref-input-rows γ-input-rows input-rows, (ref-input-values γ-input-values input-values, (18446744073709551615, (order, (ref-list γ-list «list», (stop, (ref-permutation δ2-8 permutation, (ref-firsts δ2-9 firsts, (ref-starts δ2-10 starts, (ref-groups δ2-11 groups, (ref-tasks δ2-12 tasks, (ref-top δ2-13 top, (ref-words δ2-14 words, (ref-floats δ2-15 floats, (ref-rows δ2-16 rows, (ref-updates l20 δ2-17 updates, (ref-values δ2-18 values, tt))))))))))))))))))), (vint w64 n ∷ [], (s-input-starts ∷ [], (s-input-rows ∷ [], (s-input-values ∷ [], (vint w64 18446744073709551615 ∷ [], (m-order ∷ [], (s-list ∷ [], (m-stop ∷ [], (s-permutation ∷ [], (s-firsts ∷ [], (s-starts ∷ [], (s-groups ∷ [], (s-tasks ∷ [], (s-top ∷ [], (s-words ∷ [], (s-floats ∷ [], (s-rows ∷ [], (sliceVal (l20, 0) (length updates) ∷ [], (s-values ∷ [], tt)))))))))))))))))))), tt) (w-and-then ! (w-load ! (w-from ! (w-stop !)) (w-look ! 40 refl)) (w-and-then ! (w-load ! (w-from ! (w-stop !)) (w-look ! 41 refl)) (w-and-then ! (w-load ! (w-from ! (w-stop !)) (w-look ! 42 refl)) (w-and-then ! (w-load ! (w-from ! (w-stop !)) (w-look ! 43 refl)) (w-and-then ! (w-neg-lit ! tt) (w-and-then ! (w-load ! (w-from ! (w-stop !)) (w-look ! 44 refl)) (w-and-then ! (w-load ! (w-from ! (w-stop !)) (w-look ! 45 refl)) (w-and-then ! (w-load ! (w-from ! (w-stop !)) (w-look ! 46 refl)) (w-and-then ! (w-load ! (w-from ! (w-stop !)) (w-look ! 18 refl)) (w-and-then ! (w-load ! (w-from ! (w-stop !)) (w-look ! 20 refl)) (w-and-then ! (w-load ! (w-from ! (w-stop !)) (w-look ! 22 refl)) (w-and-then ! (w-load ! (w-from ! (w-stop !)) (w-look ! 24 refl)) (w-and-then ! (w-load ! (w-from ! (w-stop !)) (w-look ! 26 refl)) (w-and-then ! (w-load ! (w-from ! (w-stop !)) (w-look ! 28 refl)) (w-and-then ! (w-load ! (w-from ! (w-stop !)) (w-look ! 30 refl)) (w-and-then ! (w-load ! (w-from ! (w-stop !)) (w-look ! 32 refl)) (w-and-then ! (w-load ! (w-from ! (w-stop !)) (w-look ! 34 refl)) (w-and-then ! (w-load ! (w-from ! (w-stop !)) (w-look ! 36 refl)) (w-and-then ! (w-load ! (w-from ! (w-stop !)) (w-look ! 38 refl)) (w-no-more !)))))))))))))))))))) (λ r2.
           use1 W (later (some (λ (u′ : Outcome). ((‵ (flft (κ-input-starts) q-input-starts) ⊛ ‵ (flft (κ-input-rows) q-input-rows) ⊛ ‵ (flft (κ-input-values) q-input-values) ⊛ ‵ (flft (κ-list) q-list) ⊛ ‵ (flft (ν2-8 ∷ []) fullShare) ⊛ ‵ (flft (ν2-9 ∷ []) fullShare) ⊛ ‵ (flft (ν2-10 ∷ []) fullShare) ⊛ ‵ (flft (ν2-11 ∷ []) fullShare) ⊛ ‵ (flft (ν2-12 ∷ []) fullShare) ⊛ ‵ (flft (ν2-13 ∷ []) fullShare) ⊛ ‵ (flft (ν2-14 ∷ []) fullShare) ⊛ ‵ (flft (ν2-15 ∷ []) fullShare) ⊛ ‵ (flft (ν2-16 ∷ []) fullShare) ⊛ ‵ (flft (ν2-17 ∷ []) fullShare) ⊛ ‵ (flft (ν2-18 ∷ []) fullShare) ⊛ ‵ ftrue) ⊛ ‵ (T-Outcome.the-row .own u′ (r2 ∷ []))) ⊛ raw (ensured 𝓤 H A f-factor.ended (f-factor.clauses 𝓤 H A mem run) (κ-input-starts, (κ-input-rows, (κ-input-values, (κ-list, (ν2-8 ∷ [], (ν2-9 ∷ [], (ν2-10 ∷ [], (ν2-11 ∷ [], (ν2-12 ∷ [], (ν2-13 ∷ [], (ν2-14 ∷ [], (ν2-15 ∷ [], (ν2-16 ∷ [], (ν2-17 ∷ [], (ν2-18 ∷ [], tt))))))))))))))) (n, (ref-input-starts γ-input-starts input-starts, (ref-input-rows γ-input-rows input-rows, (ref-input-values γ-input-values input-values, (18446744073709551615, (order, (ref-list γ-list «list», (stop, (ref-permutation δ2-8 permutation, (ref-firsts δ2-9 firsts, (ref-starts δ2-10 starts, (ref-groups δ2-11 groups, (ref-tasks δ2-12 tasks, (ref-top δ2-13 top, (ref-words δ2-14 words, (ref-floats δ2-15 floats, (ref-rows δ2-16 rows, (ref-updates l20 δ2-17 updates, (ref-values δ2-18 values, tt))))))))))))))))))) tt u′)))) (id⊢ 𝓤 _) $ w-await ! tt $ w-pick ! (λ u2.
           w-split ! $ w-move ! (1 ∷ []) $ use1 W (some (λ (zs2 : Unit {0} × (Unit {0} × (Unit {0} × (Unit {0} × (Unit {0} × (Unit {0} × (Unit {0} × (Unit {0} × (List ℕ × (List ℕ × (List ℕ × (List ℕ × (List ℕ × (List ℕ × (List ℕ × (List Float × (List ℕ × (List Update × (List Float × Unit {0}))))))))))))))))))). ‵ (lasts f-factor.ended (κ-input-starts, (κ-input-rows, (κ-input-values, (κ-list, (ν2-8 ∷ [], (ν2-9 ∷ [], (ν2-10 ∷ [], (ν2-11 ∷ [], (ν2-12 ∷ [], (ν2-13 ∷ [], (ν2-14 ∷ [], (ν2-15 ∷ [], (ν2-16 ∷ [], (ν2-17 ∷ [], (ν2-18 ∷ [], tt))))))))))))))) (n, (ref-input-starts γ-input-starts input-starts, (ref-input-rows γ-input-rows input-rows, (ref-input-values γ-input-values input-values, (18446744073709551615, (order, (ref-list γ-list «list», (stop, (ref-permutation δ2-8 permutation, (ref-firsts δ2-9 firsts, (ref-starts δ2-10 starts, (ref-groups δ2-11 groups, (ref-tasks δ2-12 tasks, (ref-top δ2-13 top, (ref-words δ2-14 words, (ref-floats δ2-15 floats, (ref-rows δ2-16 rows, (ref-updates l20 δ2-17 updates, (ref-values δ2-18 values, tt))))))))))))))))))) zs2) ⊛ raw (fact 𝓤 (FactorSettles (factor (matrix n (input-starts) (input-rows) (input-values)) 18446744073709551615 order («list») stop (lentAll (length (permutation)) (length (firsts)) (length (starts)) (length (groups)) (length (tasks)) (length (top)) (length (words)) (length (floats)) (length (rows)) (length (updates)) (length (values)))) u2 ((zs2 .1 .1 .1 .1 .1 .1 .1 .1 .0)) ((zs2 .1 .1 .1 .1 .1 .1 .1 .1 .1 .0)) ((zs2 .1 .1 .1 .1 .1 .1 .1 .1 .1 .1 .0)) ((zs2 .1 .1 .1 .1 .1 .1 .1 .1 .1 .1 .1 .0)) ((zs2 .1 .1 .1 .1 .1 .1 .1 .1 .1 .1 .1 .1 .0)) ((zs2 .1 .1 .1 .1 .1 .1 .1 .1 .1 .1 .1 .1 .1 .0)) ((zs2 .1 .1 .1 .1 .1 .1 .1 .1 .1 .1 .1 .1 .1 .1 .0)) ((zs2 .1 .1 .1 .1 .1 .1 .1 .1 .1 .1 .1 .1 .1 .1 .1 .0)) ((zs2 .1 .1 .1 .1 .1 .1 .1 .1 .1 .1 .1 .1 .1 .1 .1 .1 .0)) ((zs2 .1 .1 .1 .1 .1 .1 .1 .1 .1 .1 .1 .1 .1 .1 .1 .1 .1 .0)) ((zs2 .1 .1 .1 .1 .1 .1 .1 .1 .1 .1 .1 .1 .1 .1 .1 .1 .1 .1 .0)))))) (id⊢ 𝓤 _) $ w-pick ! (λ zs2. w-split ! $ w-move ! (1 ∷ []) $ w-heard ! (FactorSettles (factor (matrix n (input-starts) (input-rows) (input-values)) 18446744073709551615 order («list») stop (lentAll (length (permutation)) (length (firsts)) (length (starts)) (length (groups)) (length (tasks)) (length (top)) (length (words)) (length (floats)) (length (rows)) (length (updates)) (length (values)))) u2 ((zs2 .1 .1 .1 .1 .1 .1 .1 .1 .0)) ((zs2 .1 .1 .1 .1 .1 .1 .1 .1 .1 .0)) ((zs2 .1 .1 .1 .1 .1 .1 .1 .1 .1 .1 .0)) ((zs2 .1 .1 .1 .1 .1 .1 .1 .1 .1 .1 .1 .0)) ((zs2 .1 .1 .1 .1 .1 .1 .1 .1 .1 .1 .1 .1 .0)) ((zs2 .1 .1 .1 .1 .1 .1 .1 .1 .1 .1 .1 .1 .1 .0)) ((zs2 .1 .1 .1 .1 .1 .1 .1 .1 .1 .1 .1 .1 .1 .1 .0)) ((zs2 .1 .1 .1 .1 .1 .1 .1 .1 .1 .1 .1 .1 .1 .1 .1 .0)) ((zs2 .1 .1 .1 .1 .1 .1 .1 .1 .1 .1 .1 .1 .1 .1 .1 .1 .0)) ((zs2 .1 .1 .1 .1 .1 .1 .1 .1 .1 .1 .1 .1 .1 .1 .1 .1 .1 .0)) ((zs2 .1 .1 .1 .1 .1 .1 .1 .1 .1 .1 .1 .1 .1 .1 .1 .1 .1 .1 .0))) (λ d2.
-          w-fsplit ! $ w-drop ! $ w-fsplit ! $ w-drop ! $ w-fsplit ! $ w-drop ! $ w-fsplit ! $ w-drop ! $ w-fsplit ! $ w-drop ! $ w-fsplit ! $ w-drop ! $ w-fsplit ! $ w-drop ! $ w-fsplit ! $ w-drop ! $ w-fsplit ! $ w-fsplit ! $ w-move ! (1 ∷ []) $ w-feqL ! (λ same2-permutation. w-move ! (1 ∷ []) $ w-fsplit ! $ w-fsplit ! $ w-move ! (1 ∷ []) $ w-feqL ! (λ same2-firsts. w-move ! (1 ∷ []) $ w-fsplit ! $ w-fsplit ! $ w-move ! (1 ∷ []) $ w-feqL ! (λ same2-starts. w-move ! (1 ∷ []) $ w-fsplit ! $ w-fsplit ! $ w-move ! (1 ∷ []) $ w-feqL ! (λ same2-groups. w-move ! (1 ∷ []) $ w-fsplit ! $ w-fsplit ! $ w-move ! (1 ∷ []) $ w-feqL ! (λ same2-tasks. w-move ! (1 ∷ []) $ w-fsplit ! $ w-fsplit ! $ w-move ! (1 ∷ []) $ w-feqL ! (λ same2-top. w-move ! (1 ∷ []) $ w-fsplit ! $ w-fsplit ! $ w-move ! (1 ∷ []) $ w-feqL ! (λ same2-words. w-move ! (1 ∷ []) $ w-fsplit ! $ w-fsplit ! $ w-move ! (1 ∷ []) $ w-feqL ! (λ same2-floats. w-move ! (1 ∷ []) $ w-fsplit ! $ w-fsplit ! $ w-move ! (1 ∷ []) $ w-feqL ! (λ same2-rows. w-move ! (1 ∷ []) $ w-fsplit ! $ w-fsplit ! $ w-move ! (1 ∷ []) $ w-feqL ! (λ same2-updates. w-move ! (1 ∷ []) $ w-fsplit ! $ w-fsplit ! $ w-move ! (1 ∷ []) $ w-feqL ! (λ same2-values. w-move ! (1 ∷ []) $ w-drop ! $
+          w-past ! $ w-past ! $ w-past ! $ w-past ! $ w-past ! $ w-past ! $ w-past ! $ w-past ! $ w-last ! (λ same2-permutation. w-move ! (1 ∷ []) $ w-last ! (λ same2-firsts. w-move ! (1 ∷ []) $ w-last ! (λ same2-starts. w-move ! (1 ∷ []) $ w-last ! (λ same2-groups. w-move ! (1 ∷ []) $ w-last ! (λ same2-tasks. w-move ! (1 ∷ []) $ w-last ! (λ same2-top. w-move ! (1 ∷ []) $ w-last ! (λ same2-words. w-move ! (1 ∷ []) $ w-last ! (λ same2-floats. w-move ! (1 ∷ []) $ w-last ! (λ same2-rows. w-move ! (1 ∷ []) $ w-last ! (λ same2-updates. w-move ! (1 ∷ []) $ w-last ! (λ same2-values. w-move ! (1 ∷ []) $ w-drop ! $
           w-move ! (11 ∷ []) $ w-split ! $ w-move ! (1 ∷ []) $ w-peeks ! T-Outcome.the-row (Is T-Outcome.the-row) (shows 𝓤 H A T-Outcome.the-row) u2 (r2 ∷ []) (λ is2. w-land ! (w-from ! (w-stop !)) (w-init ! 69 refl (LL.lawful T-Outcome.the-type L-Outcome.the-laws 𝓤 H A W .typed u2 _ is2 .0)) $
-          w-drop ! $ w-split ! $ w-move ! (1 ∷ []) $ w-split ! $ w-move ! (1 ∷ []) $ w-split ! $ w-move ! (1 ∷ []) $ w-split ! $ w-move ! (1 ∷ []) $ w-split ! $ w-lft-end ! tt $ w-move ! (0 ∷ 27 ∷ 16 ∷ []) $ use3 W (later (‵ (MutSlice (named 4) κ-permutation usize .own (ref-permutation γ-permutation (zs2 .1 .1 .1 .1 .1 .1 .1 .1 .0)) (sliceVal (b-permutation, o-permutation) (length permutation) ∷ [])) ⊛ ‵ (flft κ-permutation q-permutation))) (comes-back usize κ-permutation (ν2-8 ∷ []) q-permutation γ-permutation b-permutation o-permutation 𝓤 H A W (named 4) (named 4) permutation δ2-8 (zs2 .1 .1 .1 .1 .1 .1 .1 .1 .0) room-permutation same2-permutation) $ w-await ! tt $ w-split ! $
-          w-move ! (2 ∷ []) $ w-split ! $ w-lft-end ! tt $ w-move ! (0 ∷ 27 ∷ 17 ∷ []) $ use3 W (later (‵ (MutSlice (named 5) κ-firsts usize .own (ref-firsts γ-firsts (zs2 .1 .1 .1 .1 .1 .1 .1 .1 .1 .0)) (sliceVal (b-firsts, o-firsts) (length firsts) ∷ [])) ⊛ ‵ (flft κ-firsts q-firsts))) (comes-back usize κ-firsts (ν2-9 ∷ []) q-firsts γ-firsts b-firsts o-firsts 𝓤 H A W (named 5) (named 5) firsts δ2-9 (zs2 .1 .1 .1 .1 .1 .1 .1 .1 .1 .0) room-firsts same2-firsts) $ w-await ! tt $ w-split ! $
-          w-move ! (2 ∷ []) $ w-split ! $ w-lft-end ! tt $ w-move ! (0 ∷ 27 ∷ 18 ∷ []) $ use3 W (later (‵ (MutSlice (named 6) κ-starts usize .own (ref-starts γ-starts (zs2 .1 .1 .1 .1 .1 .1 .1 .1 .1 .1 .0)) (sliceVal (b-starts, o-starts) (length starts) ∷ [])) ⊛ ‵ (flft κ-starts q-starts))) (comes-back usize κ-starts (ν2-10 ∷ []) q-starts γ-starts b-starts o-starts 𝓤 H A W (named 6) (named 6) starts δ2-10 (zs2 .1 .1 .1 .1 .1 .1 .1 .1 .1 .1 .0) room-starts same2-starts) $ w-await ! tt $ w-split ! $
-          w-move ! (2 ∷ []) $ w-split ! $ w-lft-end ! tt $ w-move ! (0 ∷ 27 ∷ 19 ∷ []) $ use3 W (later (‵ (MutSlice (named 7) κ-groups usize .own (ref-groups γ-groups (zs2 .1 .1 .1 .1 .1 .1 .1 .1 .1 .1 .1 .0)) (sliceVal (b-groups, o-groups) (length groups) ∷ [])) ⊛ ‵ (flft κ-groups q-groups))) (comes-back usize κ-groups (ν2-11 ∷ []) q-groups γ-groups b-groups o-groups 𝓤 H A W (named 7) (named 7) groups δ2-11 (zs2 .1 .1 .1 .1 .1 .1 .1 .1 .1 .1 .1 .0) room-groups same2-groups) $ w-await ! tt $ w-split ! $
-          w-move ! (2 ∷ []) $ w-split ! $ w-lft-end ! tt $ w-move ! (0 ∷ 27 ∷ 20 ∷ []) $ use3 W (later (‵ (MutSlice (named 8) κ-tasks usize .own (ref-tasks γ-tasks (zs2 .1 .1 .1 .1 .1 .1 .1 .1 .1 .1 .1 .1 .0)) (sliceVal (b-tasks, o-tasks) (length tasks) ∷ [])) ⊛ ‵ (flft κ-tasks q-tasks))) (comes-back usize κ-tasks (ν2-12 ∷ []) q-tasks γ-tasks b-tasks o-tasks 𝓤 H A W (named 8) (named 8) tasks δ2-12 (zs2 .1 .1 .1 .1 .1 .1 .1 .1 .1 .1 .1 .1 .0) room-tasks same2-tasks) $ w-await ! tt $ w-split ! $
-          w-move ! (2 ∷ []) $ w-split ! $ w-lft-end ! tt $ w-move ! (0 ∷ 27 ∷ 21 ∷ []) $ use3 W (later (‵ (MutSlice (named 9) κ-top usize .own (ref-top γ-top (zs2 .1 .1 .1 .1 .1 .1 .1 .1 .1 .1 .1 .1 .1 .0)) (sliceVal (b-top, o-top) (length top) ∷ [])) ⊛ ‵ (flft κ-top q-top))) (comes-back usize κ-top (ν2-13 ∷ []) q-top γ-top b-top o-top 𝓤 H A W (named 9) (named 9) top δ2-13 (zs2 .1 .1 .1 .1 .1 .1 .1 .1 .1 .1 .1 .1 .1 .0) room-top same2-top) $ w-await ! tt $ w-split ! $
-          w-move ! (2 ∷ []) $ w-split ! $ w-lft-end ! tt $ w-move ! (0 ∷ 27 ∷ 22 ∷ []) $ use3 W (later (‵ (MutSlice (named 10) κ-words usize .own (ref-words γ-words (zs2 .1 .1 .1 .1 .1 .1 .1 .1 .1 .1 .1 .1 .1 .1 .0)) (sliceVal (b-words, o-words) (length words) ∷ [])) ⊛ ‵ (flft κ-words q-words))) (comes-back usize κ-words (ν2-14 ∷ []) q-words γ-words b-words o-words 𝓤 H A W (named 10) (named 10) words δ2-14 (zs2 .1 .1 .1 .1 .1 .1 .1 .1 .1 .1 .1 .1 .1 .1 .0) room-words same2-words) $ w-await ! tt $ w-split ! $
-          w-move ! (2 ∷ []) $ w-split ! $ w-lft-end ! tt $ w-move ! (0 ∷ 27 ∷ 23 ∷ []) $ use3 W (later (‵ (MutSlice (named 11) κ-floats f64 .own (ref-floats γ-floats (zs2 .1 .1 .1 .1 .1 .1 .1 .1 .1 .1 .1 .1 .1 .1 .1 .0)) (sliceVal (b-floats, o-floats) (length floats) ∷ [])) ⊛ ‵ (flft κ-floats q-floats))) (comes-back f64 κ-floats (ν2-15 ∷ []) q-floats γ-floats b-floats o-floats 𝓤 H A W (named 11) (named 11) floats δ2-15 (zs2 .1 .1 .1 .1 .1 .1 .1 .1 .1 .1 .1 .1 .1 .1 .1 .0) room-floats same2-floats) $ w-await ! tt $ w-split ! $
-          w-move ! (2 ∷ []) $ w-split ! $ w-lft-end ! tt $ w-move ! (0 ∷ 27 ∷ 24 ∷ []) $ use3 W (later (‵ (MutSlice (named 12) κ-rows usize .own (ref-rows γ-rows (zs2 .1 .1 .1 .1 .1 .1 .1 .1 .1 .1 .1 .1 .1 .1 .1 .1 .0)) (sliceVal (b-rows, o-rows) (length rows) ∷ [])) ⊛ ‵ (flft κ-rows q-rows))) (comes-back usize κ-rows (ν2-16 ∷ []) q-rows γ-rows b-rows o-rows 𝓤 H A W (named 12) (named 12) rows δ2-16 (zs2 .1 .1 .1 .1 .1 .1 .1 .1 .1 .1 .1 .1 .1 .1 .1 .1 .0) room-rows same2-rows) $ w-await ! tt $ w-split ! $
+          w-drop ! $ w-split ! $ w-move ! (1 ∷ []) $ w-split ! $ w-move ! (1 ∷ []) $ w-split ! $ w-move ! (1 ∷ []) $ w-split ! $ w-move ! (1 ∷ 26 ∷ 15 ∷ []) $ w-back ! tt usize κ-permutation q-permutation γ-permutation b-permutation o-permutation (named 4) (named 4) permutation (length permutation) refl ν2-8 δ2-8 (zs2 .1 .1 .1 .1 .1 .1 .1 .1 .0) room-permutation same2-permutation $
+          w-move ! (2 ∷ 26 ∷ 16 ∷ []) $ w-back ! tt usize κ-firsts q-firsts γ-firsts b-firsts o-firsts (named 5) (named 5) firsts (length firsts) refl ν2-9 δ2-9 (zs2 .1 .1 .1 .1 .1 .1 .1 .1 .1 .0) room-firsts same2-firsts $
+          w-written ! (‵ (MutSlice (named 5) κ-firsts usize .own (ref-firsts γ-firsts (zs2 .1 .1 .1 .1 .1 .1 .1 .1 .1 .0)) (sliceVal (b-firsts, o-firsts) (length firsts) ∷ [])) ∷ ‵ (flft κ-firsts q-firsts) ∷ (‵ (flft (ν2-10 ∷ []) fullShare) ⊛ ‵ (flft (ν2-11 ∷ []) fullShare) ⊛ ‵ (flft (ν2-12 ∷ []) fullShare) ⊛ ‵ (flft (ν2-13 ∷ []) fullShare) ⊛ ‵ (flft (ν2-14 ∷ []) fullShare) ⊛ ‵ (flft (ν2-15 ∷ []) fullShare) ⊛ ‵ (flft (ν2-16 ∷ []) fullShare) ⊛ ‵ (flft (ν2-17 ∷ []) fullShare) ⊛ ‵ (flft (ν2-18 ∷ []) fullShare) ⊛ ‵ ftrue) ∷ ‵ (MutSlice (named 4) κ-permutation usize .own (ref-permutation γ-permutation (zs2 .1 .1 .1 .1 .1 .1 .1 .1 .0)) (sliceVal (b-permutation, o-permutation) (length permutation) ∷ [])) ∷ ‵ (flft κ-permutation q-permutation) ∷ ‵ (flft κ-list q-list) ∷ ‵ (flft κ-input-values q-input-values) ∷ ‵ (flft κ-input-rows q-input-rows) ∷ ‵ (flft κ-input-starts q-input-starts) ∷ ‵ (finally f64 δ2-18 (zs2 .1 .1 .1 .1 .1 .1 .1 .1 .1 .1 .1 .1 .1 .1 .1 .1 .1 .1 .0)) ∷ ‵ (finally T-Update.the-row δ2-17 (zs2 .1 .1 .1 .1 .1 .1 .1 .1 .1 .1 .1 .1 .1 .1 .1 .1 .1 .0)) ∷ ‵ (finally usize δ2-16 (zs2 .1 .1 .1 .1 .1 .1 .1 .1 .1 .1 .1 .1 .1 .1 .1 .1 .0)) ∷ ‵ (finally f64 δ2-15 (zs2 .1 .1 .1 .1 .1 .1 .1 .1 .1 .1 .1 .1 .1 .1 .1 .0)) ∷ ‵ (finally usize δ2-14 (zs2 .1 .1 .1 .1 .1 .1 .1 .1 .1 .1 .1 .1 .1 .1 .0)) ∷ ‵ (finally usize δ2-13 (zs2 .1 .1 .1 .1 .1 .1 .1 .1 .1 .1 .1 .1 .1 .0)) ∷ ‵ (finally usize δ2-12 (zs2 .1 .1 .1 .1 .1 .1 .1 .1 .1 .1 .1 .1 .0)) ∷ ‵ (finally usize δ2-11 (zs2 .1 .1 .1 .1 .1 .1 .1 .1 .1 .1 .1 .0)) ∷ ‵ (finally usize δ2-10 (zs2 .1 .1 .1 .1 .1 .1 .1 .1 .1 .1 .0)) ∷ ‵ (LentAgain f64 κ-values (ν2-18 ∷ []) q-values γ-values b-values o-values δ2-18 values) ∷ ‵ (LentOwned T-Update.the-row (ν2-17 ∷ []) l20 0 δ2-17 updates) ∷ ‵ (LentAgain usize κ-rows (ν2-16 ∷ []) q-rows γ-rows b-rows o-rows δ2-16 rows) ∷ ‵ (LentAgain f64 κ-floats (ν2-15 ∷ []) q-floats γ-floats b-floats o-floats δ2-15 floats) ∷ ‵ (LentAgain usize κ-words (ν2-14 ∷ []) q-words γ-words b-words o-words δ2-14 words) ∷ ‵ (LentAgain usize κ-top (ν2-13 ∷ []) q-top γ-top b-top o-top δ2-13 top) ∷ ‵ (LentAgain usize κ-tasks (ν2-12 ∷ []) q-tasks γ-tasks b-tasks o-tasks δ2-12 tasks) ∷ ‵ (LentAgain usize κ-groups (ν2-11 ∷ []) q-groups γ-groups b-groups o-groups δ2-11 groups) ∷ ‵ (LentAgain usize κ-starts (ν2-10 ∷ []) q-starts γ-starts b-starts o-starts δ2-10 starts) ∷ ‵ (ShrSlice (named 3) κ-list usize .own (ref-list γ-list «list») (sliceVal (b-list, o-list) (length «list») ∷ [])) ∷ ‵ (ShrSlice (named 2) κ-input-values f64 .own (ref-input-values γ-input-values input-values) (sliceVal (b-input-values, o-input-values) (length input-values) ∷ [])) ∷ ‵ (ShrSlice (named 1) κ-input-rows usize .own (ref-input-rows γ-input-rows input-rows) (sliceVal (b-input-rows, o-input-rows) (length input-rows) ∷ [])) ∷ ‵ (ShrSlice (named 0) κ-input-starts usize .own (ref-input-starts γ-input-starts input-starts) (sliceVal (b-input-starts, o-input-starts) (length input-starts) ∷ [])) ∷ raw (Packed 𝓤 H A (‵ (MutSlice (named 14) κ-b f64 .own (ref-b γ-b b) (sliceVal (b-b, o-b) (length b) ∷ [])) ∷ ‵ (flft κ-b q-b) ∷ ‵ (fat fullShare ty18 l18 0 s-b) ∷ ‵ (fat fullShare ty19 l19 0 r1) ∷ ‵ (froom ty44 l44 0) ∷ raw (Packed 𝓤 H A spare3) ∷ raw (Packed 𝓤 H A dying) ∷ [])) ∷ ‵ (fat fullShare ty22 l22 0 (vptr b-permutation o-permutation)) ∷ ‵ (fat fullShare ty23 l23 0 s-permutation) ∷ ‵ (fat fullShare ty24 l24 0 (vptr b-firsts o-firsts)) ∷ ‵ (fat fullShare ty25 l25 0 s-firsts) ∷ ‵ (fat fullShare ty26 l26 0 (vptr b-starts o-starts)) ∷ ‵ (fat fullShare ty27 l27 0 s-starts) ∷ ‵ (fat fullShare ty28 l28 0 (vptr b-groups o-groups)) ∷ ‵ (fat fullShare ty29 l29 0 s-groups) ∷ ‵ (fat fullShare ty30 l30 0 (vptr b-tasks o-tasks)) ∷ ‵ (fat fullShare ty31 l31 0 s-tasks) ∷ ‵ (fat fullShare ty32 l32 0 (vptr b-top o-top)) ∷ ‵ (fat fullShare ty33 l33 0 s-top) ∷ ‵ (fat fullShare ty34 l34 0 (vptr b-words o-words)) ∷ ‵ (fat fullShare ty35 l35 0 s-words) ∷ ‵ (fat fullShare ty36 l36 0 (vptr b-floats o-floats)) ∷ ‵ (fat fullShare ty37 l37 0 s-floats) ∷ ‵ (fat fullShare ty38 l38 0 (vptr b-rows o-rows)) ∷ ‵ (fat fullShare ty39 l39 0 s-rows) ∷ ‵ (fat fullShare ty40 l40 0 (vptr l20 0)) ∷ ‵ (fat fullShare ty41 l41 0 (sliceVal (l20, 0) (length updates))) ∷ ‵ (fat fullShare ty42 l42 0 (vptr b-values o-values)) ∷ ‵ (fat fullShare ty43 l43 0 s-values) ∷ ‵ (froom ty0 l0 0) ∷ ‵ (fat fullShare ty1 l1 0 (vint w64 n)) ∷ ‵ (fat fullShare ty2 l2 0 s-input-starts) ∷ ‵ (fat fullShare ty3 l3 0 s-input-rows) ∷ ‵ (fat fullShare ty4 l4 0 s-input-values) ∷ ‵ (fat fullShare ty5 l5 0 m-order) ∷ ‵ (fat fullShare ty6 l6 0 s-list) ∷ ‵ (fat fullShare ty7 l7 0 m-stop) ∷ ‵ (fat fullShare ty8 l8 0 s-permutation) ∷ ‵ (fat fullShare ty9 l9 0 s-firsts) ∷ ‵ (fat fullShare ty10 l10 0 s-starts) ∷ ‵ (fat fullShare ty11 l11 0 s-groups) ∷ ‵ (fat fullShare ty12 l12 0 s-tasks) ∷ ‵ (fat fullShare ty13 l13 0 s-top) ∷ ‵ (fat fullShare ty14 l14 0 s-words) ∷ ‵ (fat fullShare ty15 l15 0 s-floats) ∷ ‵ (fat fullShare ty16 l16 0 s-rows) ∷ ‵ (fat fullShare ty17 l17 0 s-values) ∷ ‵ (fat fullShare ty21 l21 0 r2) ∷ []) $
+          w-move ! (2 ∷ 26 ∷ 17 ∷ []) $ w-back ! tt usize κ-starts q-starts γ-starts b-starts o-starts (named 6) (named 6) starts (length starts) refl ν2-10 δ2-10 (zs2 .1 .1 .1 .1 .1 .1 .1 .1 .1 .1 .0) room-starts same2-starts $
+          w-move ! (2 ∷ 26 ∷ 18 ∷ []) $ w-back ! tt usize κ-groups q-groups γ-groups b-groups o-groups (named 7) (named 7) groups (length groups) refl ν2-11 δ2-11 (zs2 .1 .1 .1 .1 .1 .1 .1 .1 .1 .1 .1 .0) room-groups same2-groups $
+          w-move ! (2 ∷ 26 ∷ 19 ∷ []) $ w-back ! tt usize κ-tasks q-tasks γ-tasks b-tasks o-tasks (named 8) (named 8) tasks (length tasks) refl ν2-12 δ2-12 (zs2 .1 .1 .1 .1 .1 .1 .1 .1 .1 .1 .1 .1 .0) room-tasks same2-tasks $
+          w-written ! (‵ (MutSlice (named 8) κ-tasks usize .own (ref-tasks γ-tasks (zs2 .1 .1 .1 .1 .1 .1 .1 .1 .1 .1 .1 .1 .0)) (sliceVal (b-tasks, o-tasks) (length tasks) ∷ [])) ∷ ‵ (flft κ-tasks q-tasks) ∷ (‵ (flft (ν2-13 ∷ []) fullShare) ⊛ ‵ (flft (ν2-14 ∷ []) fullShare) ⊛ ‵ (flft (ν2-15 ∷ []) fullShare) ⊛ ‵ (flft (ν2-16 ∷ []) fullShare) ⊛ ‵ (flft (ν2-17 ∷ []) fullShare) ⊛ ‵ (flft (ν2-18 ∷ []) fullShare) ⊛ ‵ ftrue) ∷ ‵ (MutSlice (named 7) κ-groups usize .own (ref-groups γ-groups (zs2 .1 .1 .1 .1 .1 .1 .1 .1 .1 .1 .1 .0)) (sliceVal (b-groups, o-groups) (length groups) ∷ [])) ∷ ‵ (flft κ-groups q-groups) ∷ ‵ (MutSlice (named 6) κ-starts usize .own (ref-starts γ-starts (zs2 .1 .1 .1 .1 .1 .1 .1 .1 .1 .1 .0)) (sliceVal (b-starts, o-starts) (length starts) ∷ [])) ∷ ‵ (flft κ-starts q-starts) ∷ ‵ (MutSlice (named 5) κ-firsts usize .own (ref-firsts γ-firsts (zs2 .1 .1 .1 .1 .1 .1 .1 .1 .1 .0)) (sliceVal (b-firsts, o-firsts) (length firsts) ∷ [])) ∷ ‵ (flft κ-firsts q-firsts) ∷ ‵ (MutSlice (named 4) κ-permutation usize .own (ref-permutation γ-permutation (zs2 .1 .1 .1 .1 .1 .1 .1 .1 .0)) (sliceVal (b-permutation, o-permutation) (length permutation) ∷ [])) ∷ ‵ (flft κ-permutation q-permutation) ∷ ‵ (flft κ-list q-list) ∷ ‵ (flft κ-input-values q-input-values) ∷ ‵ (flft κ-input-rows q-input-rows) ∷ ‵ (flft κ-input-starts q-input-starts) ∷ ‵ (finally f64 δ2-18 (zs2 .1 .1 .1 .1 .1 .1 .1 .1 .1 .1 .1 .1 .1 .1 .1 .1 .1 .1 .0)) ∷ ‵ (finally T-Update.the-row δ2-17 (zs2 .1 .1 .1 .1 .1 .1 .1 .1 .1 .1 .1 .1 .1 .1 .1 .1 .1 .0)) ∷ ‵ (finally usize δ2-16 (zs2 .1 .1 .1 .1 .1 .1 .1 .1 .1 .1 .1 .1 .1 .1 .1 .1 .0)) ∷ ‵ (finally f64 δ2-15 (zs2 .1 .1 .1 .1 .1 .1 .1 .1 .1 .1 .1 .1 .1 .1 .1 .0)) ∷ ‵ (finally usize δ2-14 (zs2 .1 .1 .1 .1 .1 .1 .1 .1 .1 .1 .1 .1 .1 .1 .0)) ∷ ‵ (finally usize δ2-13 (zs2 .1 .1 .1 .1 .1 .1 .1 .1 .1 .1 .1 .1 .1 .0)) ∷ ‵ (LentAgain f64 κ-values (ν2-18 ∷ []) q-values γ-values b-values o-values δ2-18 values) ∷ ‵ (LentOwned T-Update.the-row (ν2-17 ∷ []) l20 0 δ2-17 updates) ∷ ‵ (LentAgain usize κ-rows (ν2-16 ∷ []) q-rows γ-rows b-rows o-rows δ2-16 rows) ∷ ‵ (LentAgain f64 κ-floats (ν2-15 ∷ []) q-floats γ-floats b-floats o-floats δ2-15 floats) ∷ ‵ (LentAgain usize κ-words (ν2-14 ∷ []) q-words γ-words b-words o-words δ2-14 words) ∷ ‵ (LentAgain usize κ-top (ν2-13 ∷ []) q-top γ-top b-top o-top δ2-13 top) ∷ ‵ (ShrSlice (named 3) κ-list usize .own (ref-list γ-list «list») (sliceVal (b-list, o-list) (length «list») ∷ [])) ∷ ‵ (ShrSlice (named 2) κ-input-values f64 .own (ref-input-values γ-input-values input-values) (sliceVal (b-input-values, o-input-values) (length input-values) ∷ [])) ∷ ‵ (ShrSlice (named 1) κ-input-rows usize .own (ref-input-rows γ-input-rows input-rows) (sliceVal (b-input-rows, o-input-rows) (length input-rows) ∷ [])) ∷ ‵ (ShrSlice (named 0) κ-input-starts usize .own (ref-input-starts γ-input-starts input-starts) (sliceVal (b-input-starts, o-input-starts) (length input-starts) ∷ [])) ∷ raw (Packed 𝓤 H A (‵ (MutSlice (named 14) κ-b f64 .own (ref-b γ-b b) (sliceVal (b-b, o-b) (length b) ∷ [])) ∷ ‵ (flft κ-b q-b) ∷ ‵ (fat fullShare ty18 l18 0 s-b) ∷ ‵ (fat fullShare ty19 l19 0 r1) ∷ ‵ (froom ty44 l44 0) ∷ raw (Packed 𝓤 H A spare3) ∷ raw (Packed 𝓤 H A dying) ∷ [])) ∷ ‵ (fat fullShare ty22 l22 0 (vptr b-permutation o-permutation)) ∷ ‵ (fat fullShare ty23 l23 0 s-permutation) ∷ ‵ (fat fullShare ty24 l24 0 (vptr b-firsts o-firsts)) ∷ ‵ (fat fullShare ty25 l25 0 s-firsts) ∷ ‵ (fat fullShare ty26 l26 0 (vptr b-starts o-starts)) ∷ ‵ (fat fullShare ty27 l27 0 s-starts) ∷ ‵ (fat fullShare ty28 l28 0 (vptr b-groups o-groups)) ∷ ‵ (fat fullShare ty29 l29 0 s-groups) ∷ ‵ (fat fullShare ty30 l30 0 (vptr b-tasks o-tasks)) ∷ ‵ (fat fullShare ty31 l31 0 s-tasks) ∷ ‵ (fat fullShare ty32 l32 0 (vptr b-top o-top)) ∷ ‵ (fat fullShare ty33 l33 0 s-top) ∷ ‵ (fat fullShare ty34 l34 0 (vptr b-words o-words)) ∷ ‵ (fat fullShare ty35 l35 0 s-words) ∷ ‵ (fat fullShare ty36 l36 0 (vptr b-floats o-floats)) ∷ ‵ (fat fullShare ty37 l37 0 s-floats) ∷ ‵ (fat fullShare ty38 l38 0 (vptr b-rows o-rows)) ∷ ‵ (fat fullShare ty39 l39 0 s-rows) ∷ ‵ (fat fullShare ty40 l40 0 (vptr l20 0)) ∷ ‵ (fat fullShare ty41 l41 0 (sliceVal (l20, 0) (length updates))) ∷ ‵ (fat fullShare ty42 l42 0 (vptr b-values o-values)) ∷ ‵ (fat fullShare ty43 l43 0 s-values) ∷ ‵ (froom ty0 l0 0) ∷ ‵ (fat fullShare ty1 l1 0 (vint w64 n)) ∷ ‵ (fat fullShare ty2 l2 0 s-input-starts) ∷ ‵ (fat fullShare ty3 l3 0 s-input-rows) ∷ ‵ (fat fullShare ty4 l4 0 s-input-values) ∷ ‵ (fat fullShare ty5 l5 0 m-order) ∷ ‵ (fat fullShare ty6 l6 0 s-list) ∷ ‵ (fat fullShare ty7 l7 0 m-stop) ∷ ‵ (fat fullShare ty8 l8 0 s-permutation) ∷ ‵ (fat fullShare ty9 l9 0 s-firsts) ∷ ‵ (fat fullShare ty10 l10 0 s-starts) ∷ ‵ (fat fullShare ty11 l11 0 s-groups) ∷ ‵ (fat fullShare ty12 l12 0 s-tasks) ∷ ‵ (fat fullShare ty13 l13 0 s-top) ∷ ‵ (fat fullShare ty14 l14 0 s-words) ∷ ‵ (fat fullShare ty15 l15 0 s-floats) ∷ ‵ (fat fullShare ty16 l16 0 s-rows) ∷ ‵ (fat fullShare ty17 l17 0 s-values) ∷ ‵ (fat fullShare ty21 l21 0 r2) ∷ []) $
+          w-move ! (2 ∷ 26 ∷ 20 ∷ []) $ w-back ! tt usize κ-top q-top γ-top b-top o-top (named 9) (named 9) top (length top) refl ν2-13 δ2-13 (zs2 .1 .1 .1 .1 .1 .1 .1 .1 .1 .1 .1 .1 .1 .0) room-top same2-top $
+          w-move ! (2 ∷ 26 ∷ 21 ∷ []) $ w-back ! tt usize κ-words q-words γ-words b-words o-words (named 10) (named 10) words (length words) refl ν2-14 δ2-14 (zs2 .1 .1 .1 .1 .1 .1 .1 .1 .1 .1 .1 .1 .1 .1 .0) room-words same2-words $
+          w-move ! (2 ∷ 26 ∷ 22 ∷ []) $ w-back ! tt f64 κ-floats q-floats γ-floats b-floats o-floats (named 11) (named 11) floats (length floats) refl ν2-15 δ2-15 (zs2 .1 .1 .1 .1 .1 .1 .1 .1 .1 .1 .1 .1 .1 .1 .1 .0) room-floats same2-floats $
+          w-written ! (‵ (MutSlice (named 11) κ-floats f64 .own (ref-floats γ-floats (zs2 .1 .1 .1 .1 .1 .1 .1 .1 .1 .1 .1 .1 .1 .1 .1 .0)) (sliceVal (b-floats, o-floats) (length floats) ∷ [])) ∷ ‵ (flft κ-floats q-floats) ∷ (‵ (flft (ν2-16 ∷ []) fullShare) ⊛ ‵ (flft (ν2-17 ∷ []) fullShare) ⊛ ‵ (flft (ν2-18 ∷ []) fullShare) ⊛ ‵ ftrue) ∷ ‵ (MutSlice (named 10) κ-words usize .own (ref-words γ-words (zs2 .1 .1 .1 .1 .1 .1 .1 .1 .1 .1 .1 .1 .1 .1 .0)) (sliceVal (b-words, o-words) (length words) ∷ [])) ∷ ‵ (flft κ-words q-words) ∷ ‵ (MutSlice (named 9) κ-top usize .own (ref-top γ-top (zs2 .1 .1 .1 .1 .1 .1 .1 .1 .1 .1 .1 .1 .1 .0)) (sliceVal (b-top, o-top) (length top) ∷ [])) ∷ ‵ (flft κ-top q-top) ∷ ‵ (MutSlice (named 8) κ-tasks usize .own (ref-tasks γ-tasks (zs2 .1 .1 .1 .1 .1 .1 .1 .1 .1 .1 .1 .1 .0)) (sliceVal (b-tasks, o-tasks) (length tasks) ∷ [])) ∷ ‵ (flft κ-tasks q-tasks) ∷ ‵ (MutSlice (named 7) κ-groups usize .own (ref-groups γ-groups (zs2 .1 .1 .1 .1 .1 .1 .1 .1 .1 .1 .1 .0)) (sliceVal (b-groups, o-groups) (length groups) ∷ [])) ∷ ‵ (flft κ-groups q-groups) ∷ ‵ (MutSlice (named 6) κ-starts usize .own (ref-starts γ-starts (zs2 .1 .1 .1 .1 .1 .1 .1 .1 .1 .1 .0)) (sliceVal (b-starts, o-starts) (length starts) ∷ [])) ∷ ‵ (flft κ-starts q-starts) ∷ ‵ (MutSlice (named 5) κ-firsts usize .own (ref-firsts γ-firsts (zs2 .1 .1 .1 .1 .1 .1 .1 .1 .1 .0)) (sliceVal (b-firsts, o-firsts) (length firsts) ∷ [])) ∷ ‵ (flft κ-firsts q-firsts) ∷ ‵ (MutSlice (named 4) κ-permutation usize .own (ref-permutation γ-permutation (zs2 .1 .1 .1 .1 .1 .1 .1 .1 .0)) (sliceVal (b-permutation, o-permutation) (length permutation) ∷ [])) ∷ ‵ (flft κ-permutation q-permutation) ∷ ‵ (flft κ-list q-list) ∷ ‵ (flft κ-input-values q-input-values) ∷ ‵ (flft κ-input-rows q-input-rows) ∷ ‵ (flft κ-input-starts q-input-starts) ∷ ‵ (finally f64 δ2-18 (zs2 .1 .1 .1 .1 .1 .1 .1 .1 .1 .1 .1 .1 .1 .1 .1 .1 .1 .1 .0)) ∷ ‵ (finally T-Update.the-row δ2-17 (zs2 .1 .1 .1 .1 .1 .1 .1 .1 .1 .1 .1 .1 .1 .1 .1 .1 .1 .0)) ∷ ‵ (finally usize δ2-16 (zs2 .1 .1 .1 .1 .1 .1 .1 .1 .1 .1 .1 .1 .1 .1 .1 .1 .0)) ∷ ‵ (LentAgain f64 κ-values (ν2-18 ∷ []) q-values γ-values b-values o-values δ2-18 values) ∷ ‵ (LentOwned T-Update.the-row (ν2-17 ∷ []) l20 0 δ2-17 updates) ∷ ‵ (LentAgain usize κ-rows (ν2-16 ∷ []) q-rows γ-rows b-rows o-rows δ2-16 rows) ∷ ‵ (ShrSlice (named 3) κ-list usize .own (ref-list γ-list «list») (sliceVal (b-list, o-list) (length «list») ∷ [])) ∷ ‵ (ShrSlice (named 2) κ-input-values f64 .own (ref-input-values γ-input-values input-values) (sliceVal (b-input-values, o-input-values) (length input-values) ∷ [])) ∷ ‵ (ShrSlice (named 1) κ-input-rows usize .own (ref-input-rows γ-input-rows input-rows) (sliceVal (b-input-rows, o-input-rows) (length input-rows) ∷ [])) ∷ ‵ (ShrSlice (named 0) κ-input-starts usize .own (ref-input-starts γ-input-starts input-starts) (sliceVal (b-input-starts, o-input-starts) (length input-starts) ∷ [])) ∷ raw (Packed 𝓤 H A (‵ (MutSlice (named 14) κ-b f64 .own (ref-b γ-b b) (sliceVal (b-b, o-b) (length b) ∷ [])) ∷ ‵ (flft κ-b q-b) ∷ ‵ (fat fullShare ty18 l18 0 s-b) ∷ ‵ (fat fullShare ty19 l19 0 r1) ∷ ‵ (froom ty44 l44 0) ∷ raw (Packed 𝓤 H A spare3) ∷ raw (Packed 𝓤 H A dying) ∷ [])) ∷ ‵ (fat fullShare ty22 l22 0 (vptr b-permutation o-permutation)) ∷ ‵ (fat fullShare ty23 l23 0 s-permutation) ∷ ‵ (fat fullShare ty24 l24 0 (vptr b-firsts o-firsts)) ∷ ‵ (fat fullShare ty25 l25 0 s-firsts) ∷ ‵ (fat fullShare ty26 l26 0 (vptr b-starts o-starts)) ∷ ‵ (fat fullShare ty27 l27 0 s-starts) ∷ ‵ (fat fullShare ty28 l28 0 (vptr b-groups o-groups)) ∷ ‵ (fat fullShare ty29 l29 0 s-groups) ∷ ‵ (fat fullShare ty30 l30 0 (vptr b-tasks o-tasks)) ∷ ‵ (fat fullShare ty31 l31 0 s-tasks) ∷ ‵ (fat fullShare ty32 l32 0 (vptr b-top o-top)) ∷ ‵ (fat fullShare ty33 l33 0 s-top) ∷ ‵ (fat fullShare ty34 l34 0 (vptr b-words o-words)) ∷ ‵ (fat fullShare ty35 l35 0 s-words) ∷ ‵ (fat fullShare ty36 l36 0 (vptr b-floats o-floats)) ∷ ‵ (fat fullShare ty37 l37 0 s-floats) ∷ ‵ (fat fullShare ty38 l38 0 (vptr b-rows o-rows)) ∷ ‵ (fat fullShare ty39 l39 0 s-rows) ∷ ‵ (fat fullShare ty40 l40 0 (vptr l20 0)) ∷ ‵ (fat fullShare ty41 l41 0 (sliceVal (l20, 0) (length updates))) ∷ ‵ (fat fullShare ty42 l42 0 (vptr b-values o-values)) ∷ ‵ (fat fullShare ty43 l43 0 s-values) ∷ ‵ (froom ty0 l0 0) ∷ ‵ (fat fullShare ty1 l1 0 (vint w64 n)) ∷ ‵ (fat fullShare ty2 l2 0 s-input-starts) ∷ ‵ (fat fullShare ty3 l3 0 s-input-rows) ∷ ‵ (fat fullShare ty4 l4 0 s-input-values) ∷ ‵ (fat fullShare ty5 l5 0 m-order) ∷ ‵ (fat fullShare ty6 l6 0 s-list) ∷ ‵ (fat fullShare ty7 l7 0 m-stop) ∷ ‵ (fat fullShare ty8 l8 0 s-permutation) ∷ ‵ (fat fullShare ty9 l9 0 s-firsts) ∷ ‵ (fat fullShare ty10 l10 0 s-starts) ∷ ‵ (fat fullShare ty11 l11 0 s-groups) ∷ ‵ (fat fullShare ty12 l12 0 s-tasks) ∷ ‵ (fat fullShare ty13 l13 0 s-top) ∷ ‵ (fat fullShare ty14 l14 0 s-words) ∷ ‵ (fat fullShare ty15 l15 0 s-floats) ∷ ‵ (fat fullShare ty16 l16 0 s-rows) ∷ ‵ (fat fullShare ty17 l17 0 s-values) ∷ ‵ (fat fullShare ty21 l21 0 r2) ∷ []) $
+          w-move ! (2 ∷ 26 ∷ 23 ∷ []) $ w-back ! tt usize κ-rows q-rows γ-rows b-rows o-rows (named 12) (named 12) rows (length rows) refl ν2-16 δ2-16 (zs2 .1 .1 .1 .1 .1 .1 .1 .1 .1 .1 .1 .1 .1 .1 .1 .1 .0) room-rows same2-rows $
           w-move ! (2 ∷ []) $ w-split ! $ w-lft-end ! tt $ w-move ! (0 ∷ 27 ∷ 25 ∷ []) $ use3 W (later (‵ (Lies T-Update.the-row 16384 l20 0 ((zs2 .1 .1 .1 .1 .1 .1 .1 .1 .1 .1 .1 .1 .1 .1 .1 .1 .1 .0))))) (owned-back 𝓤 H A W T-Update.the-row tt 16384 l20 0 (ν2-17 ∷ []) (named 13) updates room-updates size-updates δ2-17 (zs2 .1 .1 .1 .1 .1 .1 .1 .1 .1 .1 .1 .1 .1 .1 .1 .1 .1 .0) same2-updates) $ w-await ! tt $
-          w-move ! (1 ∷ []) $ w-split ! $ w-lft-end ! tt $ w-move ! (0 ∷ 26 ∷ 25 ∷ []) $ use3 W (later (‵ (MutSlice (named 13) κ-values f64 .own (ref-values γ-values (zs2 .1 .1 .1 .1 .1 .1 .1 .1 .1 .1 .1 .1 .1 .1 .1 .1 .1 .1 .0)) (sliceVal (b-values, o-values) (length values) ∷ [])) ⊛ ‵ (flft κ-values q-values))) (comes-back f64 κ-values (ν2-18 ∷ []) q-values γ-values b-values o-values 𝓤 H A W (named 13) (named 14) values δ2-18 (zs2 .1 .1 .1 .1 .1 .1 .1 .1 .1 .1 .1 .1 .1 .1 .1 .1 .1 .1 .0) room-values same2-values) $ w-await ! tt $ w-split ! $
+          w-move ! (1 ∷ 25 ∷ 24 ∷ []) $ w-back ! tt f64 κ-values q-values γ-values b-values o-values (named 13) (named 14) values (length values) refl ν2-18 δ2-18 (zs2 .1 .1 .1 .1 .1 .1 .1 .1 .1 .1 .1 .1 .1 .1 .1 .1 .1 .1 .0) room-values same2-values $
+          w-written ! (‵ (MutSlice (named 13) κ-values f64 .own (ref-values γ-values (zs2 .1 .1 .1 .1 .1 .1 .1 .1 .1 .1 .1 .1 .1 .1 .1 .1 .1 .1 .0)) (sliceVal (b-values, o-values) (length values) ∷ [])) ∷ ‵ (flft κ-values q-values) ∷ (‵ ftrue) ∷ ‵ (Lies T-Update.the-row 16384 l20 0 ((zs2 .1 .1 .1 .1 .1 .1 .1 .1 .1 .1 .1 .1 .1 .1 .1 .1 .1 .0))) ∷ ‵ (MutSlice (named 12) κ-rows usize .own (ref-rows γ-rows (zs2 .1 .1 .1 .1 .1 .1 .1 .1 .1 .1 .1 .1 .1 .1 .1 .1 .0)) (sliceVal (b-rows, o-rows) (length rows) ∷ [])) ∷ ‵ (flft κ-rows q-rows) ∷ ‵ (MutSlice (named 11) κ-floats f64 .own (ref-floats γ-floats (zs2 .1 .1 .1 .1 .1 .1 .1 .1 .1 .1 .1 .1 .1 .1 .1 .0)) (sliceVal (b-floats, o-floats) (length floats) ∷ [])) ∷ ‵ (flft κ-floats q-floats) ∷ ‵ (MutSlice (named 10) κ-words usize .own (ref-words γ-words (zs2 .1 .1 .1 .1 .1 .1 .1 .1 .1 .1 .1 .1 .1 .1 .0)) (sliceVal (b-words, o-words) (length words) ∷ [])) ∷ ‵ (flft κ-words q-words) ∷ ‵ (MutSlice (named 9) κ-top usize .own (ref-top γ-top (zs2 .1 .1 .1 .1 .1 .1 .1 .1 .1 .1 .1 .1 .1 .0)) (sliceVal (b-top, o-top) (length top) ∷ [])) ∷ ‵ (flft κ-top q-top) ∷ ‵ (MutSlice (named 8) κ-tasks usize .own (ref-tasks γ-tasks (zs2 .1 .1 .1 .1 .1 .1 .1 .1 .1 .1 .1 .1 .0)) (sliceVal (b-tasks, o-tasks) (length tasks) ∷ [])) ∷ ‵ (flft κ-tasks q-tasks) ∷ ‵ (MutSlice (named 7) κ-groups usize .own (ref-groups γ-groups (zs2 .1 .1 .1 .1 .1 .1 .1 .1 .1 .1 .1 .0)) (sliceVal (b-groups, o-groups) (length groups) ∷ [])) ∷ ‵ (flft κ-groups q-groups) ∷ ‵ (MutSlice (named 6) κ-starts usize .own (ref-starts γ-starts (zs2 .1 .1 .1 .1 .1 .1 .1 .1 .1 .1 .0)) (sliceVal (b-starts, o-starts) (length starts) ∷ [])) ∷ ‵ (flft κ-starts q-starts) ∷ ‵ (MutSlice (named 5) κ-firsts usize .own (ref-firsts γ-firsts (zs2 .1 .1 .1 .1 .1 .1 .1 .1 .1 .0)) (sliceVal (b-firsts, o-firsts) (length firsts) ∷ [])) ∷ ‵ (flft κ-firsts q-firsts) ∷ ‵ (MutSlice (named 4) κ-permutation usize .own (ref-permutation γ-permutation (zs2 .1 .1 .1 .1 .1 .1 .1 .1 .0)) (sliceVal (b-permutation, o-permutation) (length permutation) ∷ [])) ∷ ‵ (flft κ-permutation q-permutation) ∷ ‵ (flft κ-list q-list) ∷ ‵ (flft κ-input-values q-input-values) ∷ ‵ (flft κ-input-rows q-input-rows) ∷ ‵ (flft κ-input-starts q-input-starts) ∷ ‵ (ShrSlice (named 3) κ-list usize .own (ref-list γ-list «list») (sliceVal (b-list, o-list) (length «list») ∷ [])) ∷ ‵ (ShrSlice (named 2) κ-input-values f64 .own (ref-input-values γ-input-values input-values) (sliceVal (b-input-values, o-input-values) (length input-values) ∷ [])) ∷ ‵ (ShrSlice (named 1) κ-input-rows usize .own (ref-input-rows γ-input-rows input-rows) (sliceVal (b-input-rows, o-input-rows) (length input-rows) ∷ [])) ∷ ‵ (ShrSlice (named 0) κ-input-starts usize .own (ref-input-starts γ-input-starts input-starts) (sliceVal (b-input-starts, o-input-starts) (length input-starts) ∷ [])) ∷ raw (Packed 𝓤 H A (‵ (MutSlice (named 14) κ-b f64 .own (ref-b γ-b b) (sliceVal (b-b, o-b) (length b) ∷ [])) ∷ ‵ (flft κ-b q-b) ∷ ‵ (fat fullShare ty18 l18 0 s-b) ∷ ‵ (fat fullShare ty19 l19 0 r1) ∷ ‵ (froom ty44 l44 0) ∷ raw (Packed 𝓤 H A spare3) ∷ raw (Packed 𝓤 H A dying) ∷ [])) ∷ ‵ (fat fullShare ty22 l22 0 (vptr b-permutation o-permutation)) ∷ ‵ (fat fullShare ty23 l23 0 s-permutation) ∷ ‵ (fat fullShare ty24 l24 0 (vptr b-firsts o-firsts)) ∷ ‵ (fat fullShare ty25 l25 0 s-firsts) ∷ ‵ (fat fullShare ty26 l26 0 (vptr b-starts o-starts)) ∷ ‵ (fat fullShare ty27 l27 0 s-starts) ∷ ‵ (fat fullShare ty28 l28 0 (vptr b-groups o-groups)) ∷ ‵ (fat fullShare ty29 l29 0 s-groups) ∷ ‵ (fat fullShare ty30 l30 0 (vptr b-tasks o-tasks)) ∷ ‵ (fat fullShare ty31 l31 0 s-tasks) ∷ ‵ (fat fullShare ty32 l32 0 (vptr b-top o-top)) ∷ ‵ (fat fullShare ty33 l33 0 s-top) ∷ ‵ (fat fullShare ty34 l34 0 (vptr b-words o-words)) ∷ ‵ (fat fullShare ty35 l35 0 s-words) ∷ ‵ (fat fullShare ty36 l36 0 (vptr b-floats o-floats)) ∷ ‵ (fat fullShare ty37 l37 0 s-floats) ∷ ‵ (fat fullShare ty38 l38 0 (vptr b-rows o-rows)) ∷ ‵ (fat fullShare ty39 l39 0 s-rows) ∷ ‵ (fat fullShare ty40 l40 0 (vptr l20 0)) ∷ ‵ (fat fullShare ty41 l41 0 (sliceVal (l20, 0) (length updates))) ∷ ‵ (fat fullShare ty42 l42 0 (vptr b-values o-values)) ∷ ‵ (fat fullShare ty43 l43 0 s-values) ∷ ‵ (froom ty0 l0 0) ∷ ‵ (fat fullShare ty1 l1 0 (vint w64 n)) ∷ ‵ (fat fullShare ty2 l2 0 s-input-starts) ∷ ‵ (fat fullShare ty3 l3 0 s-input-rows) ∷ ‵ (fat fullShare ty4 l4 0 s-input-values) ∷ ‵ (fat fullShare ty5 l5 0 m-order) ∷ ‵ (fat fullShare ty6 l6 0 s-list) ∷ ‵ (fat fullShare ty7 l7 0 m-stop) ∷ ‵ (fat fullShare ty8 l8 0 s-permutation) ∷ ‵ (fat fullShare ty9 l9 0 s-firsts) ∷ ‵ (fat fullShare ty10 l10 0 s-starts) ∷ ‵ (fat fullShare ty11 l11 0 s-groups) ∷ ‵ (fat fullShare ty12 l12 0 s-tasks) ∷ ‵ (fat fullShare ty13 l13 0 s-top) ∷ ‵ (fat fullShare ty14 l14 0 s-words) ∷ ‵ (fat fullShare ty15 l15 0 s-floats) ∷ ‵ (fat fullShare ty16 l16 0 s-rows) ∷ ‵ (fat fullShare ty17 l17 0 s-values) ∷ ‵ (fat fullShare ty21 l21 0 r2) ∷ []) $
           w-move ! (2 ∷ []) $ w-drop ! $
           w-forget ! 30 refl $ w-forget ! 31 refl $ w-forget ! 32 refl $ w-forget ! 33 refl $ w-forget ! 34 refl $ w-forget ! 35 refl $ w-forget ! 36 refl $ w-forget ! 37 refl $ w-forget ! 38 refl $ w-forget ! 39 refl $ w-forget ! 40 refl $ w-forget ! 41 refl $ w-forget ! 42 refl $ w-forget ! 43 refl $ w-forget ! 44 refl $ w-forget ! 45 refl $ w-forget ! 46 refl $ w-forget ! 47 refl $ w-forget ! 48 refl $ w-forget ! 49 refl $ w-forget ! 50 refl $ w-forget ! 51 refl $ w-move ! (30 ∷ 31 ∷ 32 ∷ 33 ∷ 34 ∷ 35 ∷ 36 ∷ 37 ∷ 38 ∷ 39 ∷ 40 ∷ 41 ∷ 42 ∷ 43 ∷ 44 ∷ 45 ∷ 46 ∷ 47 ∷ 48 ∷ 49 ∷ 50 ∷ 51 ∷ []) $ w-pack ! (‵ (froom ty22 l22 0) ∷ ‵ (froom ty23 l23 0) ∷ ‵ (froom ty24 l24 0) ∷ ‵ (froom ty25 l25 0) ∷ ‵ (froom ty26 l26 0) ∷ ‵ (froom ty27 l27 0) ∷ ‵ (froom ty28 l28 0) ∷ ‵ (froom ty29 l29 0) ∷ ‵ (froom ty30 l30 0) ∷ ‵ (froom ty31 l31 0) ∷ ‵ (froom ty32 l32 0) ∷ ‵ (froom ty33 l33 0) ∷ ‵ (froom ty34 l34 0) ∷ ‵ (froom ty35 l35 0) ∷ ‵ (froom ty36 l36 0) ∷ ‵ (froom ty37 l37 0) ∷ ‵ (froom ty38 l38 0) ∷ ‵ (froom ty39 l39 0) ∷ ‵ (froom ty40 l40 0) ∷ ‵ (froom ty41 l41 0) ∷ ‵ (froom ty42 l42 0) ∷ ‵ (froom ty43 l43 0) ∷ []) $
+          w-written ! (raw (Packed 𝓤 H A spare2) ∷ ‵ (MutSlice (named 13) κ-values f64 .own (ref-values γ-values (zs2 .1 .1 .1 .1 .1 .1 .1 .1 .1 .1 .1 .1 .1 .1 .1 .1 .1 .1 .0)) (sliceVal (b-values, o-values) (length values) ∷ [])) ∷ ‵ (flft κ-values q-values) ∷ ‵ (Lies T-Update.the-row 16384 l20 0 ((zs2 .1 .1 .1 .1 .1 .1 .1 .1 .1 .1 .1 .1 .1 .1 .1 .1 .1 .0))) ∷ ‵ (MutSlice (named 12) κ-rows usize .own (ref-rows γ-rows (zs2 .1 .1 .1 .1 .1 .1 .1 .1 .1 .1 .1 .1 .1 .1 .1 .1 .0)) (sliceVal (b-rows, o-rows) (length rows) ∷ [])) ∷ ‵ (flft κ-rows q-rows) ∷ ‵ (MutSlice (named 11) κ-floats f64 .own (ref-floats γ-floats (zs2 .1 .1 .1 .1 .1 .1 .1 .1 .1 .1 .1 .1 .1 .1 .1 .0)) (sliceVal (b-floats, o-floats) (length floats) ∷ [])) ∷ ‵ (flft κ-floats q-floats) ∷ ‵ (MutSlice (named 10) κ-words usize .own (ref-words γ-words (zs2 .1 .1 .1 .1 .1 .1 .1 .1 .1 .1 .1 .1 .1 .1 .0)) (sliceVal (b-words, o-words) (length words) ∷ [])) ∷ ‵ (flft κ-words q-words) ∷ ‵ (MutSlice (named 9) κ-top usize .own (ref-top γ-top (zs2 .1 .1 .1 .1 .1 .1 .1 .1 .1 .1 .1 .1 .1 .0)) (sliceVal (b-top, o-top) (length top) ∷ [])) ∷ ‵ (flft κ-top q-top) ∷ ‵ (MutSlice (named 8) κ-tasks usize .own (ref-tasks γ-tasks (zs2 .1 .1 .1 .1 .1 .1 .1 .1 .1 .1 .1 .1 .0)) (sliceVal (b-tasks, o-tasks) (length tasks) ∷ [])) ∷ ‵ (flft κ-tasks q-tasks) ∷ ‵ (MutSlice (named 7) κ-groups usize .own (ref-groups γ-groups (zs2 .1 .1 .1 .1 .1 .1 .1 .1 .1 .1 .1 .0)) (sliceVal (b-groups, o-groups) (length groups) ∷ [])) ∷ ‵ (flft κ-groups q-groups) ∷ ‵ (MutSlice (named 6) κ-starts usize .own (ref-starts γ-starts (zs2 .1 .1 .1 .1 .1 .1 .1 .1 .1 .1 .0)) (sliceVal (b-starts, o-starts) (length starts) ∷ [])) ∷ ‵ (flft κ-starts q-starts) ∷ ‵ (MutSlice (named 5) κ-firsts usize .own (ref-firsts γ-firsts (zs2 .1 .1 .1 .1 .1 .1 .1 .1 .1 .0)) (sliceVal (b-firsts, o-firsts) (length firsts) ∷ [])) ∷ ‵ (flft κ-firsts q-firsts) ∷ ‵ (MutSlice (named 4) κ-permutation usize .own (ref-permutation γ-permutation (zs2 .1 .1 .1 .1 .1 .1 .1 .1 .0)) (sliceVal (b-permutation, o-permutation) (length permutation) ∷ [])) ∷ ‵ (flft κ-permutation q-permutation) ∷ ‵ (flft κ-list q-list) ∷ ‵ (flft κ-input-values q-input-values) ∷ ‵ (flft κ-input-rows q-input-rows) ∷ ‵ (flft κ-input-starts q-input-starts) ∷ ‵ (ShrSlice (named 3) κ-list usize .own (ref-list γ-list «list») (sliceVal (b-list, o-list) (length «list») ∷ [])) ∷ ‵ (ShrSlice (named 2) κ-input-values f64 .own (ref-input-values γ-input-values input-values) (sliceVal (b-input-values, o-input-values) (length input-values) ∷ [])) ∷ ‵ (ShrSlice (named 1) κ-input-rows usize .own (ref-input-rows γ-input-rows input-rows) (sliceVal (b-input-rows, o-input-rows) (length input-rows) ∷ [])) ∷ ‵ (ShrSlice (named 0) κ-input-starts usize .own (ref-input-starts γ-input-starts input-starts) (sliceVal (b-input-starts, o-input-starts) (length input-starts) ∷ [])) ∷ raw (Packed 𝓤 H A (‵ (MutSlice (named 14) κ-b f64 .own (ref-b γ-b b) (sliceVal (b-b, o-b) (length b) ∷ [])) ∷ ‵ (flft κ-b q-b) ∷ ‵ (fat fullShare ty18 l18 0 s-b) ∷ ‵ (fat fullShare ty19 l19 0 r1) ∷ ‵ (froom ty44 l44 0) ∷ raw (Packed 𝓤 H A spare3) ∷ raw (Packed 𝓤 H A dying) ∷ [])) ∷ ‵ (froom ty0 l0 0) ∷ ‵ (fat fullShare ty1 l1 0 (vint w64 n)) ∷ ‵ (fat fullShare ty2 l2 0 s-input-starts) ∷ ‵ (fat fullShare ty3 l3 0 s-input-rows) ∷ ‵ (fat fullShare ty4 l4 0 s-input-values) ∷ ‵ (fat fullShare ty5 l5 0 m-order) ∷ ‵ (fat fullShare ty6 l6 0 s-list) ∷ ‵ (fat fullShare ty7 l7 0 m-stop) ∷ ‵ (fat fullShare ty8 l8 0 s-permutation) ∷ ‵ (fat fullShare ty9 l9 0 s-firsts) ∷ ‵ (fat fullShare ty10 l10 0 s-starts) ∷ ‵ (fat fullShare ty11 l11 0 s-groups) ∷ ‵ (fat fullShare ty12 l12 0 s-tasks) ∷ ‵ (fat fullShare ty13 l13 0 s-top) ∷ ‵ (fat fullShare ty14 l14 0 s-words) ∷ ‵ (fat fullShare ty15 l15 0 s-floats) ∷ ‵ (fat fullShare ty16 l16 0 s-rows) ∷ ‵ (fat fullShare ty17 l17 0 s-values) ∷ ‵ (fat fullShare ty21 l21 0 r2) ∷ []) $
           w-move ! (30 ∷ []) $ w-unpack ! (‵ (MutSlice (named 14) κ-b f64 .own (ref-b γ-b b) (sliceVal (b-b, o-b) (length b) ∷ [])) ∷ ‵ (flft κ-b q-b) ∷ ‵ (fat fullShare ty18 l18 0 s-b) ∷ ‵ (fat fullShare ty19 l19 0 r1) ∷ ‵ (froom ty44 l44 0) ∷ raw (Packed 𝓤 H A spare3) ∷ raw (Packed 𝓤 H A dying) ∷ []) $
-          w-keep ! (36 ∷ 35 ∷ 34 ∷ 33 ∷ 27 ∷ 25 ∷ 23 ∷ 21 ∷ 19 ∷ 17 ∷ 15 ∷ 13 ∷ 11 ∷ 8 ∷ 0 ∷ 32 ∷ 31 ∷ 30 ∷ 29 ∷ 28 ∷ 26 ∷ 24 ∷ 22 ∷ 20 ∷ 18 ∷ 16 ∷ 14 ∷ 12 ∷ 9 ∷ 1 ∷ 37 ∷ 38 ∷ 39 ∷ 40 ∷ 41 ∷ 42 ∷ 43 ∷ 44 ∷ 45 ∷ 46 ∷ 47 ∷ 48 ∷ 49 ∷ 50 ∷ 51 ∷ 52 ∷ 53 ∷ 54 ∷ 2 ∷ 3 ∷ 10 ∷ 55 ∷ 4 ∷ 7 ∷ 5 ∷ 6 ∷ []) $ after2 u1 r1 is1 d1 updates made-updates size-updates u2 r2 is2 (zs2 .1 .1 .1 .1 .1 .1 .1 .1 .0) (zs2 .1 .1 .1 .1 .1 .1 .1 .1 .1 .0) (zs2 .1 .1 .1 .1 .1 .1 .1 .1 .1 .1 .0) (zs2 .1 .1 .1 .1 .1 .1 .1 .1 .1 .1 .1 .0) (zs2 .1 .1 .1 .1 .1 .1 .1 .1 .1 .1 .1 .1 .0) (zs2 .1 .1 .1 .1 .1 .1 .1 .1 .1 .1 .1 .1 .1 .0) (zs2 .1 .1 .1 .1 .1 .1 .1 .1 .1 .1 .1 .1 .1 .1 .0) (zs2 .1 .1 .1 .1 .1 .1 .1 .1 .1 .1 .1 .1 .1 .1 .1 .0) (zs2 .1 .1 .1 .1 .1 .1 .1 .1 .1 .1 .1 .1 .1 .1 .1 .1 .0) (zs2 .1 .1 .1 .1 .1 .1 .1 .1 .1 .1 .1 .1 .1 .1 .1 .1 .1 .0) (zs2 .1 .1 .1 .1 .1 .1 .1 .1 .1 .1 .1 .1 .1 .1 .1 .1 .1 .1 .0) d2 same2-permutation same2-firsts same2-starts same2-groups same2-tasks same2-top same2-words same2-floats same2-rows same2-updates same2-values))))))))))))))))))))))))))))))))))))))
+          w-keep ! (36 ∷ 35 ∷ 34 ∷ 33 ∷ 27 ∷ 25 ∷ 23 ∷ 21 ∷ 19 ∷ 17 ∷ 15 ∷ 13 ∷ 11 ∷ 8 ∷ 0 ∷ 32 ∷ 31 ∷ 30 ∷ 29 ∷ 28 ∷ 26 ∷ 24 ∷ 22 ∷ 20 ∷ 18 ∷ 16 ∷ 14 ∷ 12 ∷ 9 ∷ 1 ∷ 37 ∷ 38 ∷ 39 ∷ 40 ∷ 41 ∷ 42 ∷ 43 ∷ 44 ∷ 45 ∷ 46 ∷ 47 ∷ 48 ∷ 49 ∷ 50 ∷ 51 ∷ 52 ∷ 53 ∷ 54 ∷ 2 ∷ 3 ∷ 10 ∷ 55 ∷ 4 ∷ 7 ∷ 5 ∷ 6 ∷ []) $ after2 u1 r1 is1 d1 updates made-updates size-updates u2 r2 is2 (zs2 .1 .1 .1 .1 .1 .1 .1 .1 .0) (zs2 .1 .1 .1 .1 .1 .1 .1 .1 .1 .0) (zs2 .1 .1 .1 .1 .1 .1 .1 .1 .1 .1 .0) (zs2 .1 .1 .1 .1 .1 .1 .1 .1 .1 .1 .1 .0) (zs2 .1 .1 .1 .1 .1 .1 .1 .1 .1 .1 .1 .1 .0) (zs2 .1 .1 .1 .1 .1 .1 .1 .1 .1 .1 .1 .1 .1 .0) (zs2 .1 .1 .1 .1 .1 .1 .1 .1 .1 .1 .1 .1 .1 .1 .0) (zs2 .1 .1 .1 .1 .1 .1 .1 .1 .1 .1 .1 .1 .1 .1 .1 .0) (zs2 .1 .1 .1 .1 .1 .1 .1 .1 .1 .1 .1 .1 .1 .1 .1 .1 .0) (zs2 .1 .1 .1 .1 .1 .1 .1 .1 .1 .1 .1 .1 .1 .1 .1 .1 .1 .0) (zs2 .1 .1 .1 .1 .1 .1 .1 .1 .1 .1 .1 .1 .1 .1 .1 .1 .1 .1 .0) d2 same2-permutation same2-firsts same2-starts same2-groups same2-tasks same2-top same2-words same2-floats same2-rows same2-updates same2-values))))))))))))))))))))))))))))
 
       after1 : (u1 : Update) (r1 : Val) (is1 : Is T-Update.the-row u1 (r1 ∷ [])) (d1 : u1 ≡ noUpdate) → Sq W (‵ (ShrSlice (named 0) κ-input-starts usize .own (ref-input-starts γ-input-starts input-starts) (sliceVal (b-input-starts, o-input-starts) (length input-starts) ∷ [])) ∷ ‵ (ShrSlice (named 1) κ-input-rows usize .own (ref-input-rows γ-input-rows input-rows) (sliceVal (b-input-rows, o-input-rows) (length input-rows) ∷ [])) ∷ ‵ (ShrSlice (named 2) κ-input-values f64 .own (ref-input-values γ-input-values input-values) (sliceVal (b-input-values, o-input-values) (length input-values) ∷ [])) ∷ ‵ (ShrSlice (named 3) κ-list usize .own (ref-list γ-list «list») (sliceVal (b-list, o-list) (length «list») ∷ [])) ∷ ‵ (MutSlice (named 4) κ-permutation usize .own (ref-permutation γ-permutation permutation) (sliceVal (b-permutation, o-permutation) (length permutation) ∷ [])) ∷ ‵ (MutSlice (named 5) κ-firsts usize .own (ref-firsts γ-firsts firsts) (sliceVal (b-firsts, o-firsts) (length firsts) ∷ [])) ∷ ‵ (MutSlice (named 6) κ-starts usize .own (ref-starts γ-starts starts) (sliceVal (b-starts, o-starts) (length starts) ∷ [])) ∷ ‵ (MutSlice (named 7) κ-groups usize .own (ref-groups γ-groups groups) (sliceVal (b-groups, o-groups) (length groups) ∷ [])) ∷ ‵ (MutSlice (named 8) κ-tasks usize .own (ref-tasks γ-tasks tasks) (sliceVal (b-tasks, o-tasks) (length tasks) ∷ [])) ∷ ‵ (MutSlice (named 9) κ-top usize .own (ref-top γ-top top) (sliceVal (b-top, o-top) (length top) ∷ [])) ∷ ‵ (MutSlice (named 10) κ-words usize .own (ref-words γ-words words) (sliceVal (b-words, o-words) (length words) ∷ [])) ∷ ‵ (MutSlice (named 11) κ-floats f64 .own (ref-floats γ-floats floats) (sliceVal (b-floats, o-floats) (length floats) ∷ [])) ∷ ‵ (MutSlice (named 12) κ-rows usize .own (ref-rows γ-rows rows) (sliceVal (b-rows, o-rows) (length rows) ∷ [])) ∷ ‵ (MutSlice (named 13) κ-values f64 .own (ref-values γ-values values) (sliceVal (b-values, o-values) (length values) ∷ [])) ∷ ‵ (MutSlice (named 14) κ-b f64 .own (ref-b γ-b b) (sliceVal (b-b, o-b) (length b) ∷ [])) ∷ ‵ (flft κ-input-starts q-input-starts) ∷ ‵ (flft κ-input-rows q-input-rows) ∷ ‵ (flft κ-input-values q-input-values) ∷ ‵ (flft κ-list q-list) ∷ ‵ (flft κ-permutation q-permutation) ∷ ‵ (flft κ-firsts q-firsts) ∷ ‵ (flft κ-starts q-starts) ∷ ‵ (flft κ-groups q-groups) ∷ ‵ (flft κ-tasks q-tasks) ∷ ‵ (flft κ-top q-top) ∷ ‵ (flft κ-words q-words) ∷ ‵ (flft κ-floats q-floats) ∷ ‵ (flft κ-rows q-rows) ∷ ‵ (flft κ-values q-values) ∷ ‵ (flft κ-b q-b) ∷ ‵ (froom ty0 l0 0) ∷ ‵ (fat fullShare ty1 l1 0 (vint w64 n)) ∷ ‵ (fat fullShare ty2 l2 0 s-input-starts) ∷ ‵ (fat fullShare ty3 l3 0 s-input-rows) ∷ ‵ (fat fullShare ty4 l4 0 s-input-values) ∷ ‵ (fat fullShare ty5 l5 0 m-order) ∷ ‵ (fat fullShare ty6 l6 0 s-list) ∷ ‵ (fat fullShare ty7 l7 0 m-stop) ∷ ‵ (fat fullShare ty8 l8 0 s-permutation) ∷ ‵ (fat fullShare ty9 l9 0 s-firsts) ∷ ‵ (fat fullShare ty10 l10 0 s-starts) ∷ ‵ (fat fullShare ty11 l11 0 s-groups) ∷ ‵ (fat fullShare ty12 l12 0 s-tasks) ∷ ‵ (fat fullShare ty13 l13 0 s-top) ∷ ‵ (fat fullShare ty14 l14 0 s-words) ∷ ‵ (fat fullShare ty15 l15 0 s-floats) ∷ ‵ (fat fullShare ty16 l16 0 s-rows) ∷ ‵ (fat fullShare ty17 l17 0 s-values) ∷ ‵ (fat fullShare ty18 l18 0 s-b) ∷ ‵ (fat fullShare ty19 l19 0 r1) ∷ ‵ (froom ty20 l20 0) ∷ ‵ (froom ty21 l21 0) ∷ ‵ (froom ty44 l44 0) ∷ raw (Packed 𝓤 H A spare2) ∷ raw (Packed 𝓤 H A spare3) ∷ raw (Packed 𝓤 H A dying) ∷ []) (runs C Λ En body.t-2 (atRet En Post))
       after1 u1 r1 is1 d1 =
@@ -574,6 +575,7 @@ module _ {M : Type 1} (𝓤 : URA M) (H : Heap 𝓤) (A : Atoms 𝓤) (W : Given
           w-drop ! $
           w-split ! $ w-move ! (1 ∷ []) $ w-peeks ! T-Update.the-row (Is T-Update.the-row) (shows 𝓤 H A T-Update.the-row) u1 (r1 ∷ []) (λ is1. w-land ! (w-from ! (w-stop !)) (w-init ! 3 refl (LL.lawful T-Update.the-type L-Update.the-laws 𝓤 H A W .typed u1 _ is1 .0)) $
           w-drop ! $ w-drop ! $
+          w-written ! (raw (Packed 𝓤 H A (‵ (ShrSlice (named 0) κ-input-starts usize .own (ref-input-starts γ-input-starts input-starts) (sliceVal (b-input-starts, o-input-starts) (length input-starts) ∷ [])) ∷ ‵ (ShrSlice (named 1) κ-input-rows usize .own (ref-input-rows γ-input-rows input-rows) (sliceVal (b-input-rows, o-input-rows) (length input-rows) ∷ [])) ∷ ‵ (ShrSlice (named 2) κ-input-values f64 .own (ref-input-values γ-input-values input-values) (sliceVal (b-input-values, o-input-values) (length input-values) ∷ [])) ∷ ‵ (ShrSlice (named 3) κ-list usize .own (ref-list γ-list «list») (sliceVal (b-list, o-list) (length «list») ∷ [])) ∷ ‵ (MutSlice (named 4) κ-permutation usize .own (ref-permutation γ-permutation permutation) (sliceVal (b-permutation, o-permutation) (length permutation) ∷ [])) ∷ ‵ (MutSlice (named 5) κ-firsts usize .own (ref-firsts γ-firsts firsts) (sliceVal (b-firsts, o-firsts) (length firsts) ∷ [])) ∷ ‵ (MutSlice (named 6) κ-starts usize .own (ref-starts γ-starts starts) (sliceVal (b-starts, o-starts) (length starts) ∷ [])) ∷ ‵ (MutSlice (named 7) κ-groups usize .own (ref-groups γ-groups groups) (sliceVal (b-groups, o-groups) (length groups) ∷ [])) ∷ ‵ (MutSlice (named 8) κ-tasks usize .own (ref-tasks γ-tasks tasks) (sliceVal (b-tasks, o-tasks) (length tasks) ∷ [])) ∷ ‵ (MutSlice (named 9) κ-top usize .own (ref-top γ-top top) (sliceVal (b-top, o-top) (length top) ∷ [])) ∷ ‵ (MutSlice (named 10) κ-words usize .own (ref-words γ-words words) (sliceVal (b-words, o-words) (length words) ∷ [])) ∷ ‵ (MutSlice (named 11) κ-floats f64 .own (ref-floats γ-floats floats) (sliceVal (b-floats, o-floats) (length floats) ∷ [])) ∷ ‵ (MutSlice (named 12) κ-rows usize .own (ref-rows γ-rows rows) (sliceVal (b-rows, o-rows) (length rows) ∷ [])) ∷ ‵ (MutSlice (named 13) κ-values f64 .own (ref-values γ-values values) (sliceVal (b-values, o-values) (length values) ∷ [])) ∷ ‵ (MutSlice (named 14) κ-b f64 .own (ref-b γ-b b) (sliceVal (b-b, o-b) (length b) ∷ [])) ∷ ‵ (flft κ-input-starts q-input-starts) ∷ ‵ (flft κ-input-rows q-input-rows) ∷ ‵ (flft κ-input-values q-input-values) ∷ ‵ (flft κ-list q-list) ∷ ‵ (flft κ-permutation q-permutation) ∷ ‵ (flft κ-firsts q-firsts) ∷ ‵ (flft κ-starts q-starts) ∷ ‵ (flft κ-groups q-groups) ∷ ‵ (flft κ-tasks q-tasks) ∷ ‵ (flft κ-top q-top) ∷ ‵ (flft κ-words q-words) ∷ ‵ (flft κ-floats q-floats) ∷ ‵ (flft κ-rows q-rows) ∷ ‵ (flft κ-values q-values) ∷ ‵ (flft κ-b q-b) ∷ ‵ (froom ty0 l0 0) ∷ ‵ (fat fullShare ty1 l1 0 (vint w64 n)) ∷ ‵ (fat fullShare ty2 l2 0 s-input-starts) ∷ ‵ (fat fullShare ty3 l3 0 s-input-rows) ∷ ‵ (fat fullShare ty4 l4 0 s-input-values) ∷ ‵ (fat fullShare ty5 l5 0 m-order) ∷ ‵ (fat fullShare ty6 l6 0 s-list) ∷ ‵ (fat fullShare ty7 l7 0 m-stop) ∷ ‵ (fat fullShare ty8 l8 0 s-permutation) ∷ ‵ (fat fullShare ty9 l9 0 s-firsts) ∷ ‵ (fat fullShare ty10 l10 0 s-starts) ∷ ‵ (fat fullShare ty11 l11 0 s-groups) ∷ ‵ (fat fullShare ty12 l12 0 s-tasks) ∷ ‵ (fat fullShare ty13 l13 0 s-top) ∷ ‵ (fat fullShare ty14 l14 0 s-words) ∷ ‵ (fat fullShare ty15 l15 0 s-floats) ∷ ‵ (fat fullShare ty16 l16 0 s-rows) ∷ ‵ (fat fullShare ty17 l17 0 s-values) ∷ ‵ (fat fullShare ty18 l18 0 s-b) ∷ ‵ (froom ty20 l20 0) ∷ ‵ (froom ty21 l21 0) ∷ ‵ (froom ty44 l44 0) ∷ raw (Packed 𝓤 H A spare2) ∷ raw (Packed 𝓤 H A spare3) ∷ raw (Packed 𝓤 H A dying) ∷ [])) ∷ ‵ (fat fullShare ty19 l19 0 r1) ∷ []) $
           w-unpack ! (‵ (ShrSlice (named 0) κ-input-starts usize .own (ref-input-starts γ-input-starts input-starts) (sliceVal (b-input-starts, o-input-starts) (length input-starts) ∷ [])) ∷ ‵ (ShrSlice (named 1) κ-input-rows usize .own (ref-input-rows γ-input-rows input-rows) (sliceVal (b-input-rows, o-input-rows) (length input-rows) ∷ [])) ∷ ‵ (ShrSlice (named 2) κ-input-values f64 .own (ref-input-values γ-input-values input-values) (sliceVal (b-input-values, o-input-values) (length input-values) ∷ [])) ∷ ‵ (ShrSlice (named 3) κ-list usize .own (ref-list γ-list «list») (sliceVal (b-list, o-list) (length «list») ∷ [])) ∷ ‵ (MutSlice (named 4) κ-permutation usize .own (ref-permutation γ-permutation permutation) (sliceVal (b-permutation, o-permutation) (length permutation) ∷ [])) ∷ ‵ (MutSlice (named 5) κ-firsts usize .own (ref-firsts γ-firsts firsts) (sliceVal (b-firsts, o-firsts) (length firsts) ∷ [])) ∷ ‵ (MutSlice (named 6) κ-starts usize .own (ref-starts γ-starts starts) (sliceVal (b-starts, o-starts) (length starts) ∷ [])) ∷ ‵ (MutSlice (named 7) κ-groups usize .own (ref-groups γ-groups groups) (sliceVal (b-groups, o-groups) (length groups) ∷ [])) ∷ ‵ (MutSlice (named 8) κ-tasks usize .own (ref-tasks γ-tasks tasks) (sliceVal (b-tasks, o-tasks) (length tasks) ∷ [])) ∷ ‵ (MutSlice (named 9) κ-top usize .own (ref-top γ-top top) (sliceVal (b-top, o-top) (length top) ∷ [])) ∷ ‵ (MutSlice (named 10) κ-words usize .own (ref-words γ-words words) (sliceVal (b-words, o-words) (length words) ∷ [])) ∷ ‵ (MutSlice (named 11) κ-floats f64 .own (ref-floats γ-floats floats) (sliceVal (b-floats, o-floats) (length floats) ∷ [])) ∷ ‵ (MutSlice (named 12) κ-rows usize .own (ref-rows γ-rows rows) (sliceVal (b-rows, o-rows) (length rows) ∷ [])) ∷ ‵ (MutSlice (named 13) κ-values f64 .own (ref-values γ-values values) (sliceVal (b-values, o-values) (length values) ∷ [])) ∷ ‵ (MutSlice (named 14) κ-b f64 .own (ref-b γ-b b) (sliceVal (b-b, o-b) (length b) ∷ [])) ∷ ‵ (flft κ-input-starts q-input-starts) ∷ ‵ (flft κ-input-rows q-input-rows) ∷ ‵ (flft κ-input-values q-input-values) ∷ ‵ (flft κ-list q-list) ∷ ‵ (flft κ-permutation q-permutation) ∷ ‵ (flft κ-firsts q-firsts) ∷ ‵ (flft κ-starts q-starts) ∷ ‵ (flft κ-groups q-groups) ∷ ‵ (flft κ-tasks q-tasks) ∷ ‵ (flft κ-top q-top) ∷ ‵ (flft κ-words q-words) ∷ ‵ (flft κ-floats q-floats) ∷ ‵ (flft κ-rows q-rows) ∷ ‵ (flft κ-values q-values) ∷ ‵ (flft κ-b q-b) ∷ ‵ (froom ty0 l0 0) ∷ ‵ (fat fullShare ty1 l1 0 (vint w64 n)) ∷ ‵ (fat fullShare ty2 l2 0 s-input-starts) ∷ ‵ (fat fullShare ty3 l3 0 s-input-rows) ∷ ‵ (fat fullShare ty4 l4 0 s-input-values) ∷ ‵ (fat fullShare ty5 l5 0 m-order) ∷ ‵ (fat fullShare ty6 l6 0 s-list) ∷ ‵ (fat fullShare ty7 l7 0 m-stop) ∷ ‵ (fat fullShare ty8 l8 0 s-permutation) ∷ ‵ (fat fullShare ty9 l9 0 s-firsts) ∷ ‵ (fat fullShare ty10 l10 0 s-starts) ∷ ‵ (fat fullShare ty11 l11 0 s-groups) ∷ ‵ (fat fullShare ty12 l12 0 s-tasks) ∷ ‵ (fat fullShare ty13 l13 0 s-top) ∷ ‵ (fat fullShare ty14 l14 0 s-words) ∷ ‵ (fat fullShare ty15 l15 0 s-floats) ∷ ‵ (fat fullShare ty16 l16 0 s-rows) ∷ ‵ (fat fullShare ty17 l17 0 s-values) ∷ ‵ (fat fullShare ty18 l18 0 s-b) ∷ ‵ (froom ty20 l20 0) ∷ ‵ (froom ty21 l21 0) ∷ ‵ (froom ty44 l44 0) ∷ raw (Packed 𝓤 H A spare2) ∷ raw (Packed 𝓤 H A spare3) ∷ raw (Packed 𝓤 H A dying) ∷ []) $
           w-keep ! (0 ∷ 1 ∷ 2 ∷ 3 ∷ 4 ∷ 5 ∷ 6 ∷ 7 ∷ 8 ∷ 9 ∷ 10 ∷ 11 ∷ 12 ∷ 13 ∷ 14 ∷ 15 ∷ 16 ∷ 17 ∷ 18 ∷ 19 ∷ 20 ∷ 21 ∷ 22 ∷ 23 ∷ 24 ∷ 25 ∷ 26 ∷ 27 ∷ 28 ∷ 29 ∷ 30 ∷ 31 ∷ 32 ∷ 33 ∷ 34 ∷ 35 ∷ 36 ∷ 37 ∷ 38 ∷ 39 ∷ 40 ∷ 41 ∷ 42 ∷ 43 ∷ 44 ∷ 45 ∷ 46 ∷ 47 ∷ 48 ∷ 55 ∷ 49 ∷ 50 ∷ 51 ∷ 52 ∷ 53 ∷ 54 ∷ []) $ after1 u1 r1 is1 d1)))))
 

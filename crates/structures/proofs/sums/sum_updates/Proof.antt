@@ -56,7 +56,8 @@ use Rattle.structures.proofs.sums.counted_update.Symbol as def-counted-
 use Rattle.structures.proofs.sums.counted_update.Symbol.{name as #structures·counted-update}
 use Rattle.structures.proofs.sums.counted_update.Met as thm-counted-update
 use Rattle.update.proofs.Steps.{says-nothing as w-says-nothing}
-use Rattle.update.proofs.Packs.{Packed, pack as w-pack, unpack as w-unpack, homes-freed as w-homes-freed}
+use Rattle.update.proofs.Packs.{Packed, pack as w-pack, unpack as w-unpack, written as w-written, homes-freed as w-homes-freed}
+use Rattle.update.proofs.Lending.{past as w-past}
 use Rattle.structures.proofs.sums.sum_updates.Key.{name as #structures·sum-updates}
 use Rattle.structures.proofs.sums.sum_updates as here
 use Rattle.structures.proofs.sums.sum_updates.Statement as stated
@@ -131,9 +132,9 @@ module _ {M : Type 1} (𝓤 : URA M) (H : Heap 𝓤) (A : Atoms 𝓤) (W : Given
     abbrev fm : FmC 𝓤 H (W .laws) (𝓣 .C)
     fm = fmOf 𝓤 H (W .laws) 𝓣
 
-    asked1 : (i : ℕ) (h : ℕ) (m-h : Val) (is-h : Is usize h (m-h ∷ [])) (kept : i ≤ m) (small : i < m) → ent 𝓤 (onEntry 𝓤 H A f-update-at.signature (κ-list, tt) (q-list, tt) (ref-list γ-list «list», (i, tt)) (sliceVal (b-list, o-list) (length «list») ∷ [], (vint w64 i ∷ [], tt))) (C-update-at 𝓤 H A mem run .pre (((κ-list, tt), (q-list, tt), tt, (ref-list γ-list «list», (i, tt)), (sliceVal (b-list, o-list) (length «list») ∷ [], (vint w64 i ∷ [], tt))), tt))
+    asked1 : (i : ℕ) (h : ℕ) (m-h : Val) (is-h : Is usize h (m-h ∷ [])) (kept : i ≤ m) (small : i < m) → ent 𝓤 (onEntry 𝓤 H A f-update-at.signature (κ-list, tt) (q-list, tt) (ref-list γ-list «list», (i, tt)) (s-list ∷ [], (vint w64 i ∷ [], tt))) (C-update-at 𝓤 H A mem run .pre (((κ-list, tt), (q-list, tt), tt, (ref-list γ-list «list», (i, tt)), (s-list ∷ [], (vint w64 i ∷ [], tt))), tt))
     asked1 i h m-h is-h kept small =
-        let need : i < length («list») = omega (arith, small, pre) in qed W ((‵ (flft (κ-list) q-list) ⊛ ‵ ftrue) ∷ ‵ (owns (ShrSlice (named 0) (κ-list) T-Update.the-row ∷ usize ∷ []) (ref-list γ-list «list», (i, tt)) (sliceVal (b-list, o-list) (length «list») ∷ [], (vint w64 i ∷ [], tt))) ∷ []) ∵ w-says ! need $ w-frame ! $ done !
+        let need : i < length («list») = omega (arith, small, pre) in qed W ((‵ (flft (κ-list) q-list) ⊛ ‵ ftrue) ∷ ‵ (owns (ShrSlice (named 0) (κ-list) T-Update.the-row ∷ usize ∷ []) (ref-list γ-list «list», (i, tt)) (s-list ∷ [], (vint w64 i ∷ [], tt))) ∷ []) ∵ w-says ! need $ w-frame ! $ done !
 
     asked2 : (i : ℕ) (h : ℕ) (m-h : Val) (is-h : Is usize h (m-h ∷ [])) (kept : i ≤ m) (small : i < m) (u1 : Update) (r1 : Val) (is1 : Is T-Update.the-row u1 (r1 ∷ [])) (d1 : u1 ≡ getD («list») i noUpdate) → ent 𝓤 (onEntry 𝓤 H A f-counted-update.signature tt tt (h, (u1, tt)) (m-h ∷ [], (r1 ∷ [], tt))) (C-counted-update 𝓤 H A mem run .pre ((tt, tt, tt, (h, (u1, tt)), (m-h ∷ [], (r1 ∷ [], tt))), tt))
     asked2 i h m-h is-h kept small u1 r1 is1 d1 =
@@ -175,11 +176,11 @@ module _ {M : Type 1} (𝓤 : URA M) (H : Heap 𝓤) (A : Atoms 𝓤) (W : Given
           use1 W (‵ (ShrSlice (named 0) κ-list T-Update.the-row .own (ref-list γ-list «list») (sliceVal (b-list, o-list) (length «list») ∷ [])) ⊛ ‵ (ShrSlice (named 0) κ-list T-Update.the-row .own (ref-list γ-list «list») (sliceVal (b-list, o-list) (length «list») ∷ []))) (shr-slice-copy 𝓤 H A W (named 0) κ-list T-Update.the-row .twice (ref-list γ-list «list») (s-list ∷ [])) $ w-split ! $
           w-nothing ! $ w-owned ! usize (Is usize) (uint-makes 𝓤 H A W w64) i _ ((refl, fits-turn)) $ w-fjoin ! $ w-move ! (1 ∷ 0 ∷ []) $ w-fjoin ! $
           w-nothing ! $ w-move ! (3 ∷ 0 ∷ []) $ w-join ! $
-          use2 W (raw (C-update-at 𝓤 H A mem run .pre (((κ-list, tt), (q-list, tt), tt, (ref-list γ-list «list», (i, tt)), (sliceVal (b-list, o-list) (length «list») ∷ [], (vint w64 i ∷ [], tt))), tt))) (asked1 i h m-h is-h kept small) $
-          w-calls-at ! fm (C-update-at 𝓤 H A mem run) known-update-at (((κ-list, tt), (q-list, tt), tt, (ref-list γ-list «list», (i, tt)), (sliceVal (b-list, o-list) (length «list») ∷ [], (vint w64 i ∷ [], tt))), tt) (w-and-then ! (w-load ! (w-from ! (w-stop !)) (w-look ! 3 refl)) (w-and-then ! (w-load ! (w-from ! (w-stop !)) (w-look ! 6 refl)) (w-no-more !))) (λ r1.
+          use2 W (raw (C-update-at 𝓤 H A mem run .pre (((κ-list, tt), (q-list, tt), tt, (ref-list γ-list «list», (i, tt)), (s-list ∷ [], (vint w64 i ∷ [], tt))), tt))) (asked1 i h m-h is-h kept small) $
+          w-calls-at ! fm (C-update-at 𝓤 H A mem run) known-update-at (((κ-list, tt), (q-list, tt), tt, (ref-list γ-list «list», (i, tt)), (s-list ∷ [], (vint w64 i ∷ [], tt))), tt) (w-and-then ! (w-load ! (w-from ! (w-stop !)) (w-look ! 3 refl)) (w-and-then ! (w-load ! (w-from ! (w-stop !)) (w-look ! 6 refl)) (w-no-more !))) (λ r1.
           use1 W (later (some (λ (u′ : Update). ((‵ (flft (κ-list) q-list) ⊛ ‵ ftrue) ⊛ ‵ (T-Update.the-row .own u′ (r1 ∷ []))) ⊛ raw (ensured 𝓤 H A f-update-at.ended (f-update-at.clauses 𝓤 H A mem run) (κ-list, tt) (ref-list γ-list «list», (i, tt)) tt u′)))) (id⊢ 𝓤 _) $ w-await ! tt $ w-pick ! (λ u1.
           w-split ! $ w-move ! (1 ∷ []) $ use1 W (some (λ (zs1 : Unit {0} × (Unit {0} × Unit {0})). ‵ (lasts f-update-at.ended (κ-list, tt) (ref-list γ-list «list», (i, tt)) zs1) ⊛ raw (fact 𝓤 (u1 ≡ getD («list») i noUpdate)))) (id⊢ 𝓤 _) $ w-pick ! (λ zs1. w-split ! $ w-move ! (1 ∷ []) $ w-heard ! (u1 ≡ getD («list») i noUpdate) (λ d1.
-          w-fsplit ! $ w-drop ! $ w-fsplit ! $ w-drop ! $ w-drop ! $
+          w-past ! $ w-past ! $ w-drop ! $
           w-split ! $ w-move ! (1 ∷ []) $ w-peeks ! T-Update.the-row (Is T-Update.the-row) (shows 𝓤 H A T-Update.the-row) u1 (r1 ∷ []) (λ is1. w-land ! (w-from ! (w-stop !)) (w-init ! 8 refl (LL.lawful T-Update.the-type L-Update.the-laws 𝓤 H A W .typed u1 _ is1 .0)) $
           w-drop ! $ w-split ! $ w-move ! (1 ∷ []) $ w-drop ! $
           w-nothing ! $ w-owned ! T-Update.the-row (Is T-Update.the-row) (LL.makes T-Update.the-type L-Update.the-plain 𝓤 H A) u1 _ is1 $ w-fjoin ! $ w-owned ! usize (Is usize) (uint-makes 𝓤 H A W w64) h _ is-h $ w-fjoin ! $
@@ -188,7 +189,7 @@ module _ {M : Type 1} (𝓤 : URA M) (H : Heap 𝓤) (A : Atoms 𝓤) (W : Given
           w-calls-at ! fm (C-counted-update 𝓤 H A mem run) known-counted-update ((tt, tt, tt, (h, (u1, tt)), (m-h ∷ [], (r1 ∷ [], tt))), tt) (w-and-then ! (w-load ! (w-from ! (w-stop !)) (w-look ! 6 refl)) (w-and-then ! (w-load ! (w-from ! (w-stop !)) (w-look ! 8 refl)) (w-no-more !))) (λ r2.
           use1 W (later (some (λ (u′ : ℕ). ((‵ ftrue) ⊛ ‵ (usize .own u′ (r2 ∷ []))) ⊛ raw (ensured 𝓤 H A f-counted-update.ended (f-counted-update.clauses 𝓤 H A mem run) tt (h, (u1, tt)) tt u′)))) (id⊢ 𝓤 _) $ w-await ! tt $ w-pick ! (λ u2.
           w-split ! $ w-move ! (1 ∷ []) $ use1 W (some (λ (zs2 : Unit {0} × (Unit {0} × Unit {0})). ‵ (lasts f-counted-update.ended tt (h, (u1, tt)) zs2) ⊛ raw (emp 𝓤))) (id⊢ 𝓤 _) $ w-pick ! (λ zs2. w-split ! $ w-move ! (1 ∷ []) $ w-drop ! $
-          w-fsplit ! $ w-drop ! $ w-fsplit ! $ w-drop ! $ w-drop ! $
+          w-past ! $ w-past ! $ w-drop ! $
           w-split ! $ w-move ! (1 ∷ []) $ w-peeks ! usize (Is usize) (shows 𝓤 H A usize) u2 (r2 ∷ []) (λ is2. w-land ! (w-from ! (w-stop !)) (w-store ! 7 refl (uint-lawful 𝓤 H A W w64 .typed u2 _ is2 .0)) $
           w-drop ! $ w-drop ! $
           w-assigns-last ! (w-bin ! (w-load ! (w-from ! (w-stop !)) (w-look ! 6 refl)) (w-lit ! tt) (record { fits = next-fits })) (w-from ! (w-stop !)) (w-store ! 6 refl (tt, record { fits = next-fits })) $
