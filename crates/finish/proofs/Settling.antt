@@ -85,10 +85,6 @@ unfolding orElse
 first-none none g e = refl
 first-none (some a) g e = absurd (some-none e)
 
--- at most all are cleared
-pub stale-most : (a : Answer) (long : ℕ) → staleOf a long ≤ long
-stale-most a long = accepted-or a (λ e. omega (arith, stale-accepted a long e)) (λ e. omega (arith, stale-refused a long e))
-
 -- of no supernodes no updates
 no-updates : (S : Shape) (m : ℕ) → supernodes S ≡ 0 → held m noUpdate (updates S) ≡ replicate m noUpdate
 unfolding held updates joined

@@ -39,7 +39,6 @@ use mathlib.Core.List.{List, [], _++_, _∷_}
 use mathlib.Core.Path.{_∙_, _≡_, ap, refl, sym}
 use mir.Syntax.{Ty, erased, imm, mut, named, tyFloat, tyInt, tyRef, tyUnit, w64}
 use mir.Val.{Val, vint, vptr}
-use native.Mathlib.Omega.{arith}
 use prog.Memory.{Memory}
 use prog.Routine.{Routine}
 use prog.Wp.{Calls, Env, Heap, Loops, Tables, WpFn}
@@ -104,9 +103,10 @@ use Rattle.settling.proofs.settle as here
 use Rattle.settling.proofs.settle.Statement as stated
 use Rattle.settling.proofs.settle.Code as code
 use Rattle.settling.proofs.settle.Code.Mir as body
+use Rattle.survey.proofs.Settling.{stale-fits}
 use Rattle.survey.specs.Settles.{staleOf}
 use Rattle.finish.proofs.Running.{lay-asked, run-asked, ended}
-use Rattle.finish.proofs.Settling.{stale-most, settled-all, lent-same, ended-at, plain-at}
+use Rattle.finish.proofs.Settling.{settled-all, lent-same, ended-at, plain-at}
 
 abbrev stayed : Stays (here.ended .signature .params) (here.ended .kept)
 stayed = (stay-none (λ _. T-Findings.the-row) yes, (stay-none (λ _. usize) yes, (stay-none-slice (0 ∷ []) tt (plain (λ _. usize)) yes, (stay-none-slice (1 ∷ []) tt (plain (λ _. usize)) yes, (stay-none-slice (2 ∷ []) tt (plain (λ _. f64)) yes, (stay-none (λ _. usize) yes, (stay-none (λ _. T-Order.the-row) yes, (stay-none-slice (3 ∷ []) tt (plain (λ _. usize)) yes, (stay-none (λ _. T-Stop.the-row) yes, (stay-slice (4 ∷ []) tt (plain (λ _. usize)), (stay-slice (5 ∷ []) tt (plain (λ _. usize)), (stay-slice (6 ∷ []) tt (plain (λ _. usize)), (stay-slice (7 ∷ []) tt (plain (λ _. usize)), (stay-slice (8 ∷ []) tt (plain (λ _. usize)), (stay-slice (9 ∷ []) tt (plain (λ _. usize)), (stay-slice (10 ∷ []) tt (plain (λ _. usize)), (stay-slice (11 ∷ []) tt (plain (λ _. f64)), (stay-slice (12 ∷ []) tt (plain (λ _. usize)), (stay-slice (13 ∷ []) tt (plain (λ _. T-Update.the-row)), (stay-slice (14 ∷ []) tt (plain (λ _. f64)), tt))))))))))))))))))))
@@ -529,7 +529,7 @@ module _ {M : Type 1} (𝓤 : URA M) (H : Heap 𝓤) (A : Atoms 𝓤) (W : Given
 
     asked8 : (u1 : ℕ) (r1 : Val) (is1 : Is usize u1 (r1 ∷ [])) (d1 : u1 ≡ x .supernodes) (c2-words : List ℕ) (c2-updates : List Update) (d2 : LaidOut n u1 (input-starts) (input-rows) (words) (c2-words) (updates) (c2-updates)) (same2-words : length c2-words ≡ length words) (same2-updates : length c2-updates ≡ length updates) (u3 : ℕ) (r3 : Val) (is3 : Is usize u3 (r3 ∷ [])) (d3 : Steps x stop u3) (u4 : ℕ) (r4 : Val) (is4 : Is usize u4 (r4 ∷ [])) (d4 : u4 ≡ x .entries) (u5 : ℕ) (r5 : Val) (is5 : Is usize u5 (r5 ∷ [])) (c5-words : List ℕ) (c5-floats : List Float) (c5-values : List Float) (d5 : RunLeft u3 u1 n (length input-rows) u4 (firsts) (starts) (rows) (c2-words) (c5-words) (floats) (values) (c5-values) u5) (same5-words : length c5-words ≡ length c2-words) (same5-floats : length c5-floats ≡ length floats) (same5-values : length c5-values ≡ length values) (u6 : Outcome) (r6 : Val) (is6 : Is T-Outcome.the-row u6 (r6 ∷ [])) (c6-permutation : List ℕ) (c6-firsts : List ℕ) (c6-starts : List ℕ) (c6-groups : List ℕ) (c6-tasks : List ℕ) (c6-top : List ℕ) (c6-words : List ℕ) (c6-floats : List Float) (c6-rows : List ℕ) (c6-values : List Float) (d6 : FactorSettlesPlain (factor (matrix n (input-starts) (input-rows) (input-values)) cap order («list») stop (lentAll (length (permutation)) (length (firsts)) (length (starts)) (length (groups)) (length (tasks)) (length (top)) (length (c5-words)) (length (c5-floats)) (length (rows)) (length updates) (length (c5-values)))) u6 (c6-permutation) (c6-firsts) (c6-starts) (c6-groups) (c6-tasks) (c6-top) (c6-words) (c6-floats) (c6-rows) (c6-values)) (same6-permutation : length c6-permutation ≡ length permutation) (same6-firsts : length c6-firsts ≡ length firsts) (same6-starts : length c6-starts ≡ length starts) (same6-groups : length c6-groups ≡ length groups) (same6-tasks : length c6-tasks ≡ length tasks) (same6-top : length c6-top ≡ length top) (same6-words : length c6-words ≡ length c5-words) (same6-floats : length c6-floats ≡ length c5-floats) (same6-rows : length c6-rows ≡ length rows) (same6-values : length c6-values ≡ length c5-values) (u7 : ℕ) (r7 : Val) (is7 : Is usize u7 (r7 ∷ [])) (d7 : u7 ≡ staleOf (u6 .answer) (length updates)) (ν8-0 : ℕ) (δ8-0 : GName) → ent 𝓤 (onEntry 𝓤 H A f-clear.signature (ν8-0 ∷ [], tt) (fullShare, tt) (ref-updates δ8-0 c2-updates, (u7, tt)) (s-updates ∷ [], (r7 ∷ [], tt))) (C-clear 𝓤 H A mem run .pre (((ν8-0 ∷ [], tt), (fullShare, tt), tt, (ref-updates δ8-0 c2-updates, (u7, tt)), (s-updates ∷ [], (r7 ∷ [], tt))), tt))
     asked8 u1 r1 is1 d1 c2-words c2-updates d2 same2-words same2-updates u3 r3 is3 d3 u4 r4 is4 d4 u5 r5 is5 c5-words c5-floats c5-values d5 same5-words same5-floats same5-values u6 r6 is6 c6-permutation c6-firsts c6-starts c6-groups c6-tasks c6-top c6-words c6-floats c6-rows c6-values d6 same6-permutation same6-firsts same6-starts same6-groups same6-tasks same6-top same6-words same6-floats same6-rows same6-values u7 r7 is7 d7 ν8-0 δ8-0 =
-        let need : u7 ≤ length (c2-updates) = omega (arith, d7, stale-most (u6 .answer) (length updates), same2-updates) in qed W ((‵ (flft (ν8-0 ∷ []) fullShare) ⊛ ‵ ftrue) ∷ ‵ (owns (MutSlice (named 0) (ν8-0 ∷ []) T-Update.the-row ∷ usize ∷ []) (ref-updates δ8-0 c2-updates, (u7, tt)) (s-updates ∷ [], (r7 ∷ [], tt))) ∷ []) ∵ w-says ! need $ w-frame ! $ done !
+        let need : u7 ≤ length (c2-updates) = stale-fits (u6 .answer) d7 same2-updates in qed W ((‵ (flft (ν8-0 ∷ []) fullShare) ⊛ ‵ ftrue) ∷ ‵ (owns (MutSlice (named 0) (ν8-0 ∷ []) T-Update.the-row ∷ usize ∷ []) (ref-updates δ8-0 c2-updates, (u7, tt)) (s-updates ∷ [], (r7 ∷ [], tt))) ∷ []) ∵ w-says ! need $ w-frame ! $ done !
 
     module _ (l0 l1 l2 l3 l4 l5 l6 l7 l8 l9 l10 l11 l12 l13 l14 l15 l16 l17 l18 l19 l20 l21 l22 l23 l24 l25 l26 l27 l28 l29 l30 l31 l32 l33 l34 l35 l36 l37 l38 l39 l40 l41 l42 l43 l44 l45 l46 l47 l48 l49 l50 l51 l52 l53 l54 l55 l56 l57 l58 l59 l60 l61 l62 l63 l64 l65 l66 l67 l68 l69 l70 l71 l72 l73 l74 l75 l76 l77 : ℕ) where
       abbrev En : Env 𝓤 H
