@@ -13,7 +13,7 @@ It reads the function's MIR (`rt mir CRATE`), the sources of the functions that 
     carries: a name for each word or struct that a turn changes, in the order of the locals
     begin, again: why it holds before the first turn, and after one more (`kept` and `small`, that i is below the end, are known)
     reach: start + (end - start) ≡ end, where the loop does not start at 0
-    struct NAME: where it is declared, as crate::NAME         lends: the module with Again, Shared, Owned, Packs and Steps
+    struct NAME: where it is declared, as crate::NAME         lends: the module with Again, Shared, Lending, Owned, Packs and Steps
 
 The terms may name what is known: each parameter by its name (a slice's is its list), `pre` (the function's requires), and of
 call N its result uN, its ensures dN, the list cN-P that it leaves in the slice P and sameN-P, that this is as long as before.
@@ -21,8 +21,8 @@ Of a local array A, `[u; n]`, its list is A, made-A says that it is n times u, a
 
 What it covers: parameters that are words, plain structs and enums, slices and `&mut [T; n]`; local arrays of structs; calls whose
 arguments are words, whole structs, slices and arrays; contracts of one `requires` and one `ensures` at most; one loop `while i < to {
-calls; i += 1 }`, in a function with no arrays. After each call the walk is cut into a lemma of its own. Positions in the context are
-counted here, never by hand.
+calls; i += 1 }`, in a function with no arrays. After each call the walk is cut into a sequent of its own, in which what the next call
+does not need is one entry of the context. Positions in the context are counted here, never by hand. docs/WALKS.md says more.
 """
 import glob, os, re, subprocess, sys
 
@@ -692,7 +692,7 @@ class Walk:
         if mine[-1] == 'return': return
         k = w.calls + 1
         if k in w.spare and mine[-1][0] == 'call': w.unpack(f'S-{k}', [f'L-{q}' for q in w.spare[k]])
-        text = repr(mine); used = {int(x) for x in re.findall(r"'(?:place|local|copy|move)?',? ?\[?'?(\d+)'?", text)} | {int(x) for x in re.findall(r"'(\d+)'", text)}
+        used = {int(x) for x in re.findall(r"'(\d+)'", repr(mine))}      # the locals among them, and numbers that do no harm
         slices = {n for j, (n, kind, t) in enumerate(w.P) if j + 1 in used and kind in LENT}
         w.rest = [x for x in w.c.c if x[0] in ('S', 'D') or x[:3] in ('own', 'tok') and x[4:] not in slices or x[:2] == 'L-' and int(x[2:]) not in used]
         w.pack(w.rest, 'REST')
