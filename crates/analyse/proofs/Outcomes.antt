@@ -12,7 +12,7 @@ use Rattle.statement.specs.Tasks.{splitOf}
 use Rattle.statement.specs.Lists.{joined}
 use Rattle.statement.specs.Shape.{supernodes}
 use Rattle.statement.specs.Supernodes.{updates}
-use Rattle.statement.specs.Answers.{answered}
+use Rattle.laws.specs.Answered.{answered}
 use Rattle.statement.specs.Record.{emptyRecord}
 use Rattle.statement.specs.Areas.{held, noUpdate, flat}
 use Rattle.statement.specs.Calls.{analysis, settled, recordOf, areasOf, cleared, structureRoom, analyseFault, analyse}

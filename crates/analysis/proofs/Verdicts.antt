@@ -11,7 +11,8 @@ use lib.ListN.{length}
 use borrow.Author.Tests.{lt-ltb, ltb-false}
 use Rattle.statement.specs.Supernodes as supernodal
 use Rattle.statement.specs.Areas.{Need, rowsNeed, updatesNeed, valuesNeed, short}
-use Rattle.statement.specs.Answers.{number, answered, orElse, test}
+use Rattle.statement.specs.Answers.{number, orElse, test}
+use Rattle.laws.specs.Answered.{answered}
 use Rattle.statement.specs.declared.Answer.{Answer}
 use Rattle.statement.specs.declared.Answer.the-variants.{Accepted, ShortArea, WrongStructure}
 use Rattle.statement.specs.declared.Room.{Room}

@@ -11,7 +11,7 @@ use Rattle.statement.specs.Postorder as postorder
 use Rattle.statement.specs.Shape.{supernodes}
 use Rattle.statement.specs.Supernodes as supernodal
 use Rattle.statement.specs.Areas.{Need, rowsNeed, updatesNeed, valuesNeed, short}
-use Rattle.statement.specs.Answers.{answered}
+use Rattle.laws.specs.Answered.{answered}
 use Rattle.statement.specs.declared.Answer.{Answer}
 use Rattle.statement.specs.declared.Answer.the-variants.{Accepted}
 use Rattle.statement.specs.declared.Room.{Room}

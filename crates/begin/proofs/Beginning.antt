@@ -6,7 +6,8 @@ use Prim.Native.Nat.{ℕ}
 use lib.ListN.{length}
 use lib.Ieee.{Float}
 use Rattle.statement.specs.Input.{Matrix}
-use Rattle.statement.specs.Answers.{orElse, answered}
+use Rattle.statement.specs.Answers.{orElse}
+use Rattle.laws.specs.Answered.{answered}
 use Rattle.statement.specs.declared.Answer.{Answer}
 use Rattle.statement.specs.declared.Answer.the-variants.{Accepted}
 use Rattle.statement.specs.declared.Order.{Order}

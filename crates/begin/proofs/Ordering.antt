@@ -15,7 +15,8 @@ use Rattle.statement.specs.Fill.{parent}
 use Rattle.statement.specs.Shape.{supernodes}
 use Rattle.statement.specs.Supernodes.{shapeOf}
 use Rattle.statement.specs.Run.{orderFault}
-use Rattle.statement.specs.Answers.{number, answered}
+use Rattle.statement.specs.Answers.{number}
+use Rattle.laws.specs.Answered.{answered}
 use Rattle.statement.specs.Calls.{analysis, orderOf, stopOf, wrongPosition}
 use Rattle.statement.specs.Demands.{Names}
 use Rattle.statement.specs.declared.Answer.{Answer}

@@ -7,7 +7,8 @@ use lib.ListN.{length, replicate}
 use lib.Ieee.{Float}
 use Rattle.statement.specs.Input.{Matrix, +0}
 use Rattle.statement.specs.Shape.{Shape, supernodes}
-use Rattle.statement.specs.Answers.{orElse, answered}
+use Rattle.statement.specs.Answers.{orElse}
+use Rattle.laws.specs.Answered.{answered}
 use Rattle.statement.specs.Calls.{stopOf}
 use Rattle.statement.specs.declared.Answer.the-variants.{Accepted}
 use Rattle.statement.specs.declared.Order.{Order}

@@ -7,7 +7,7 @@ use lib.ListN.{getD}
 use lib.Ieee.{Float}
 use Rattle.statement.specs.Input.{Matrix}
 use Rattle.statement.specs.Run.{orderFault}
-use Rattle.statement.specs.Answers.{answered}
+use Rattle.laws.specs.Answered.{answered}
 use Rattle.statement.specs.Calls.{analysis, orderOf, stopOf, wrongPosition}
 use Rattle.statement.specs.declared.Answer.{Answer}
 use Rattle.statement.specs.declared.Answer.the-variants.{Accepted}

@@ -16,7 +16,8 @@ use Rattle.statement.specs.Input.{Matrix, pattern}
 use Rattle.statement.specs.Postorder as postorder
 use Rattle.statement.specs.Shape.{supernodes}
 use Rattle.statement.specs.Tasks.{splitOf}
-use Rattle.statement.specs.Answers.{number, test, orElse, answered}
+use Rattle.statement.specs.Answers.{number, test, orElse}
+use Rattle.laws.specs.Answered.{answered}
 use Rattle.statement.specs.Record.{emptyRecord}
 use Rattle.statement.specs.Areas.{short, held, flat}
 use Rattle.statement.specs.Calls.{inputFault, analysis, settled, recordOf, areasOf, cleared, stopOf, factorNeeds, factorFault, factor}

@@ -13,7 +13,7 @@ use Rattle.statement.specs.Shape.{Shape, supernodes, parentOf}
 use Rattle.statement.specs.Supernodes.{shapeOf, updates}
 use Rattle.statement.specs.Run.{blank, start, run}
 use Rattle.statement.specs.Areas.{held, noUpdate}
-use Rattle.statement.specs.Calls.{analysis, entryA, orderOf, stopOf, stopped}
+use Rattle.statement.specs.Calls.{analysis, entryA, orderOf, stopOf, stateAfter}
 use Rattle.statement.specs.Demands.{Names}
 use Rattle.statement.specs.declared.Answer.the-variants.{Accepted}
 use Rattle.statement.specs.declared.Order.{Order}
@@ -160,7 +160,7 @@ module _ {M : Matrix} {cap : ℕ} {o : Order} {l : List ℕ} {e : Stop} {r : Roo
             ∙ ap (λ k. take k (orderOf S o l)) et
 
         same-run : run S A (fresh S (blank S)) names ≡ ran M o l e
-        unfolding stopped analysis
+        unfolding stateAfter analysis
         same-run =
             run-entries S (built M well) A (entryA M (postorder.permutation (pattern M) (M .n))) (λ i j h k. scratch .lower .entries i j k (unfold shapeOf in h)) (start S) names
             ∙ ap (run S (entryA M (postorder.permutation (pattern M) (M .n))) (start S)) names-are

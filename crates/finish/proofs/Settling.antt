@@ -14,7 +14,8 @@ use Rattle.statement.specs.Input.{Matrix}
 use Rattle.statement.specs.Shape.{Shape, supernodes}
 use Rattle.statement.specs.Supernodes.{updates}
 use Rattle.statement.specs.Run.{State}
-use Rattle.statement.specs.Answers.{number, test, orElse, answered}
+use Rattle.statement.specs.Answers.{number, test, orElse}
+use Rattle.laws.specs.Answered.{answered}
 use Rattle.statement.specs.Areas.{Areas, Need, short, held, noUpdate}
 use Rattle.statement.specs.Calls.{Analysis, analysis, inputFault, wrongPosition, settled, areasOf, cleared, factorFault, factor}
 use Rattle.statement.specs.declared.Answer.{Answer}

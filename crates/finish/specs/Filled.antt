@@ -9,9 +9,10 @@ use lib.Ieee.{Float}
 use Rattle.statement.specs.Input.{Matrix, +0}
 use Rattle.statement.specs.Postorder.{toOriginal}
 use Rattle.statement.specs.Run.{State}
-use Rattle.statement.specs.Answers.{test, orElse, answered}
+use Rattle.statement.specs.Answers.{test, orElse}
+use Rattle.laws.specs.Answered.{answered}
 use Rattle.statement.specs.Areas.{held}
-use Rattle.statement.specs.Calls.{Settled, analysis, stopOf, stopped}
+use Rattle.statement.specs.Calls.{Settled, analysis, stopOf, stateAfter}
 use Rattle.statement.specs.declared.Answer.{Answer}
 use Rattle.statement.specs.declared.Answer.the-variants.{Accepted, WrongPivot}
 use Rattle.statement.specs.declared.Order.{Order}
@@ -26,7 +27,7 @@ use Rattle.begin.specs.Ordered.{orderTest}
 
 -- the state after the first t
 abbrev pub ran : Matrix → Order → List ℕ → Stop → State
-ran M o l e = stopped M (analysis M) o l (stopOf (analysis M .shape) e)
+ran M o l e = stateAfter M (analysis M) o l (stopOf (analysis M .shape) e)
 
 -- 9
 unfoldable pub pivotTest : Matrix → Order → List ℕ → Stop → Option Answer

@@ -11,7 +11,7 @@ use lib.Ieee.{Float, nan, binary64, div}
 use Rattle.statement.specs.Shape.{Shape, supernodes, parentOf, first, width, height, rowsOf, trapezoid, size, offset, stretch, put, zeros}
 use Rattle.statement.specs.Lists.{has, place}
 use Rattle.statement.specs.Root.{root}
-use Rattle.statement.specs.Rules.{Out, made, broke, andThen, look, earlier, within, entry, column, extend, grow, step}
+use Rattle.statement.specs.Rules.{Out, made, broke, andThen, look, earlier, within, entry, pivotColumn, extend, grow, step}
 use Rattle.statement.specs.Run.{State, Fate, done, failed, skipped, blocked, fateOf, settle, fate, run}
 use Rattle.laws.specs.Built.{Built}
 use Rattle.laws.proofs.Local.{cond-and}
@@ -83,7 +83,7 @@ module _ (S T : Shape) (J : ℕ) (a : Alike S T J) where
       map-agree own c r h (i ∷ l) e = cc (entry-agree own i c h (e i (has-same i l)), map-agree own c r h l (λ k m. e k (has-more k i l m)))
 
       extend-agree : (own : List Float) (c : ℕ) → c < width S J → extend S A v J c own ≡ extend T B u J c own
-      unfolding extend column
+      unfolding extend pivotColumn
       extend-agree own c h =
           rw (
             ← a .firsts J (omega arith),

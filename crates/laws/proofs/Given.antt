@@ -14,10 +14,11 @@ use Rattle.statement.specs.Input.{Matrix, WellFormed, rowsLength}
 use Rattle.statement.specs.Postorder.{toOriginal}
 use Rattle.statement.specs.Shape.{Shape, supernodes}
 use Rattle.statement.specs.Run.{State, orderFault}
-use Rattle.statement.specs.Answers.{number, test, orElse, answered}
+use Rattle.statement.specs.Answers.{number, test, orElse}
+use Rattle.laws.specs.Answered.{answered}
 use Rattle.statement.specs.Areas.{Areas, Need, needs, short}
-use Rattle.statement.specs.Calls.{Analysis, analysis, entryA, inputFault, settled, later, structureRoom, analyseFault, analyse, wrongPosition, stopped, factorNeeds, factorLater, factorFault, factor}
-use Rattle.statement.specs.Solve.{FactorAreas, shapeIn, solvable, solution, solveFault, solved, solve}
+use Rattle.statement.specs.Calls.{Analysis, analysis, entryA, inputFault, settled, later, structureRoom, analyseFault, analyse, wrongPosition, stateAfter, factorNeeds, factorLater, factorFault, factor}
+use Rattle.statement.specs.Solve.{FactorAreas, shapeIn, solvable, solution, solveFault, settledSolve, solve}
 use Rattle.statement.specs.Demands.{Names}
 use Rattle.laws.specs.Built.{Sound}
 use Rattle.laws.specs.Given.{First, analyseNumbers, factorNumbers, solveNumbers, WrongAt, BadStart, BadRows, Held, SizesGiven, AnalyseGiven, factored, order, stop, ran, Fails, Housed, Ordered, FactorGiven, Met, scratch, Sided, SolveGiven}
@@ -33,7 +34,7 @@ use Rattle.statement.specs.declared.Order.{Order}
 use Rattle.statement.specs.declared.Stop.{Stop}
 use Rattle.statement.specs.declared.Room.{Room}
 use Rattle.statement.specs.declared.Answer.{Answer}
-use Rattle.statement.specs.declared.Answer.the-variants.{OverLimit, WrongLengths, WrongStarts, WrongColumn, ShortArea, OverCap, WrongOrder, WrongPivot, WrongSide, NoFactor, WrongStructure}
+use Rattle.statement.specs.declared.Answer.the-variants.{Accepted, OverLimit, WrongLengths, WrongStarts, WrongColumn, ShortArea, OverCap, WrongOrder, WrongPivot, WrongSide, NoFactor, WrongStructure}
 
 -- number 8 as a test
 position-given : (W : ℕ → Type 0) (f : Option ℕ) → ((p : ℕ) → (f ≡ some p) ↔ W p) → (x : Answer) → (wrongPosition f ≡ some x) ↔ ((p : ℕ) × W p × (x ≡ WrongOrder p))
@@ -159,22 +160,25 @@ module _ (M : Matrix) (cap : ℕ) (o : Order) (l : List ℕ) (e : Stop) (r : Roo
   abbrev column-at : ℕ → Answer
   column-at c = WrongPivot (toOriginal (analysis M .permutation) (record { 0 = c }))
 
-  abbrev rest : Option Answer
-  rest = orElse (wrongPosition (orderFault S (order M cap o l e r) (stop M cap o l e r))) (test (ltb (s .least) (M .n)) (column-at (s .least)) none)
+  abbrev fails : ℕ → Type 0
+  fails c = Fails M cap o l e r (record { 0 = c })
 
-  unfoldable tail : Stage (Housed M cap o l e r) rest (8 ∷ 9 ∷ []) (Ordered M cap o l e r × ((c : ℕ) → c < M .n → Fails M cap o l e r c → ⊥))
+  abbrev rest : Option Answer
+  rest = orElse (wrongPosition (orderFault S (order M cap o l e r) (stop M cap o l e r))) (test (ltb (s .least .0) (M .n)) (column-at (s .least .0)) none)
+
+  unfoldable tail : Stage (Housed M cap o l e r) rest (8 ∷ 9 ∷ []) (Ordered M cap o l e r × ((c : ℕ) → c < M .n → fails c → ⊥))
   tail =
       chain (after (λ h. order-answers S (found-sound M (h .0 .0 .0)) (order M cap o l e r) (stop M cap o l e r)))
-      (after (λ h. search-answers (Fails M cap o l e r) (M .n) (s .least) (least h) (before h) column-at))
+      (after (λ h. search-answers fails (M .n) (s .least .0) (least h) (before h) column-at))
     where
       ok : Ordered M cap o l e r → Sound S
       ok h = found-sound M (h .0 .0 .0 .0)
 
-      least : Ordered M cap o l e r → s .least < M .n → Fails M cap o l e r (s .least)
-      least h u = unfold stopped in least-fails S (entryA M (analysis M .permutation)) (ok h) (order M cap o l e r) (h .1 .0) (stop M cap o l e r) (h .1 .1) (omega (arith, found-n M))
+      least : Ordered M cap o l e r → s .least .0 < M .n → Fails M cap o l e r (s .least)
+      least h u = unfold stateAfter in least-fails S (entryA M (analysis M .permutation)) (ok h) (order M cap o l e r) (h .1 .0) (stop M cap o l e r) (h .1 .1) (omega (arith, found-n M))
 
-      before : Ordered M cap o l e r → (i : ℕ) → i < s .least → i < M .n → Fails M cap o l e r i → ⊥
-      before h i u _ = unfold stopped in none-fails S (entryA M (analysis M .permutation)) (ok h) (order M cap o l e r) (h .1 .0) (stop M cap o l e r) (h .1 .1) i u
+      before : Ordered M cap o l e r → (i : ℕ) → i < s .least .0 → i < M .n → fails i → ⊥
+      before h i u _ = unfold stateAfter in none-fails S (entryA M (analysis M .permutation)) (ok h) (order M cap o l e r) (h .1 .0) (stop M cap o l e r) (h .1 .1) (record { 0 = i }) u
 
   pub factor-passed : factorFault M cap o l (stop M cap o l e r) r (analysis M) s ≡ none → Ordered M cap o l e r
   unfolding factorFault
@@ -188,11 +192,12 @@ module _ (M : Matrix) (cap : ℕ) (o : Order) (l : List ℕ) (e : Stop) (r : Roo
       let f = faults M cap early late rest in
       let is : factored M cap o l e r ≡ answered f = settled-answer r f _ _ in
       let says = says M cap early late rest tail (factored M cap o l e r) is in
+      let accepts : (factored M cap o l e r ≡ Accepted) ↔ (Ordered M cap o l e r × ((c : ℕ) → c < M .n → fails c → ⊥)) = rw is (reply-accepted f (whole M cap early late rest tail) tt) in
       record {
         sizes = sizes-given M cap early late rest tail (factored M cap o l e r) is;
         wrongOrder = λ p. Iff·trans (says (WrongOrder p) (λ e. omega arith)) (Iff·and Iff·rfl (named-is (WrongAt S (order M cap o l e r) (stop M cap o l e r)) (λ p. WrongOrder p) (λ i j e. cc) p));
-        wrongPivot = λ k. Iff·trans (says (WrongPivot k) (λ e. omega arith)) (Iff·and Iff·rfl (λ z. (z .0, z .1, pivot k _ (z .2)), λ z. (z .0, z .1, ap WrongPivot (z .2))));
-        accepted = rw is (reply-accepted f (whole M cap early late rest tail) tt);
+        wrongPivot = λ k. Iff·trans (says (WrongPivot k) (λ e. omega arith)) (Iff·and Iff·rfl (λ z. (record { 0 = z .0 }, z .1, pivot k _ (z .2)), λ z. (z .0 .0, z .1, ap WrongPivot (z .2))));
+        accepted = Iff·trans accepts (Iff·and Iff·rfl (λ z c. z (c .0), λ z c. z (record { 0 = c })));
         others = rw is (others f (whole M cap early late rest tail) factorNumbers tt);
       }
     where
@@ -219,10 +224,10 @@ module _ (R : Record) (fa : FactorAreas) (b : List Float) (words floats : ℕ) w
       (renamed scratch-short (after (λ _. short-answers (scratch R fa b words floats)))))
 
   solve-is : solve R fa b words floats .answer ≡ answered f
-  unfolding solve solved answered
+  unfolding solve settledSolve answered
   solve-is = go f
     where
-      go : (f : Option Answer) → solved f b (solution (R .n) (fa .permutation) (shapeIn R fa) (fa .values) b) words floats .answer ≡ answered f
+      go : (f : Option Answer) → settledSolve f b (solution (R .n) (fa .permutation) (shapeIn R fa) (fa .values) b) words floats .answer ≡ answered f
       go none = refl
       go (some a) = refl
 

@@ -15,6 +15,7 @@ use Rattle.statement.specs.Lists.{has, least}
 use Rattle.statement.specs.Shape.{Shape, supernodes, parentOf}
 use Rattle.statement.specs.Run.{State, start, Fate, done, failed, skipped, fate, run, ready, firstBad, orderFault, blocked}
 use Rattle.statement.specs.Demands.{Names, Breaks}
+use Rattle.statement.specs.declared.Factored.{Factored}
 use Rattle.laws.specs.Built.{Sound}
 use Rattle.laws.specs.Given.{First, Before, BadEntry, WrongAt}
 use Rattle.laws.proofs.Fails.{fails-exactly}
@@ -162,7 +163,7 @@ module _ (S : Shape) where
 
 -- ---- number 9
 
-least-failed : (n : ℕ) (f : ℕ → Fate) (l : List ℕ) → leastOf n f l < n → (K : ℕ) × T (has K l) × (f K ≡ failed (leastOf n f l))
+least-failed : (n : ℕ) (f : ℕ → Fate) (l : List ℕ) → leastOf n f l < n → (K : ℕ) × T (has K l) × (f K ≡ failed (record { 0 = leastOf n f l }))
 unfolding leastOf has
 least-failed n f [] h = absurd (omega arith)
 least-failed n f (J ∷ l) h = go (f J) refl h (least-failed n f l)
@@ -170,31 +171,31 @@ least-failed n f (J ∷ l) h = go (f J) refl h (least-failed n f l)
     m : ℕ
     m = leastOf n f l
 
-    old : (k : ℕ) → k ≡ m → k < n → (m < n → (K : ℕ) × T (has K l) × (f K ≡ failed m)) → (K : ℕ) × T (eqb J K || has K l) × (f K ≡ failed k)
+    old : (k : ℕ) → k ≡ m → k < n → (m < n → (K : ℕ) × T (has K l) × (f K ≡ failed (record { 0 = m }))) → (K : ℕ) × T (eqb J K || has K l) × (f K ≡ failed (record { 0 = k }))
     old k q h ih = let z = ih (omega arith) in rw q (z .0, or-right (eqb J (z .0)) _ (z .1), z .2)
 
-    go : (x : Fate) → f J ≡ x → min (fails n x) m < n → (m < n → (K : ℕ) × T (has K l) × (f K ≡ failed m)) → (K : ℕ) × T (eqb J K || has K l) × (f K ≡ failed (min (fails n x) m))
+    go : (x : Fate) → f J ≡ x → min (fails n x) m < n → (m < n → (K : ℕ) × T (has K l) × (f K ≡ failed (record { 0 = m }))) → (K : ℕ) × T (eqb J K || has K l) × (f K ≡ failed (record { 0 = min (fails n x) m }))
     go (done g) e h ih = old (min n m) (omega (arith, leastOf-le n f l)) h ih
     go skipped e h ih = old (min n m) (omega (arith, leastOf-le n f l)) h ih
     go (failed c) e h ih = ⊎-elim
-        (λ (u : c ≤ m). let q : min c m ≡ c = omega arith in rw q (J, or-left (eqb J J) _ (eqb-refl J), e))
-        (λ (u : m < c). old (min c m) (omega arith) h ih) (le-or-lt c m)
+        (λ (u : c .0 ≤ m). let q : min (c .0) m ≡ c .0 = omega arith in rw q (J, or-left (eqb J J) _ (eqb-refl J), e))
+        (λ (u : m < c .0). old (min (c .0) m) (omega arith) h ih) (le-or-lt (c .0) m)
 
 module _ (S : Shape) (A : ℕ → ℕ → Float) (ok : Sound S) (l : List ℕ) (m : Names S l) (t : ℕ) (h : t ≤ supernodes S) where
   abbrev pub end : State
   end = run S A (start S) (take t l)
 
-  abbrev pub Failing : ℕ → Type 0
+  abbrev pub Failing : Factored → Type 0
   Failing c = (K : ℕ) × Before l t K × (blocked S (end .halted) K K ≡ false) × Breaks S A (end .values) K c
 
-  low : end .least ≡ leastOf (S .n) (fate S A end) (seen [] l t)
+  low : end .least .0 ≡ leastOf (S .n) (fate S A end) (seen [] l t)
   low = inv S A ok l (names-good S (ok .up) l m) t .low
 
-  pub least-fails : end .least < S .n → Failing (end .least)
+  pub least-fails : end .least .0 < S .n → Failing (end .least)
   least-fails u =
       let z = least-failed (S .n) (fate S A end) (seen [] l t) (omega (arith, low)) in
-      let x = fails-exactly S A end (z .0) (end .least) .0 (z .2 ∙ ap failed (sym low)) in
+      let x = fails-exactly S A end (z .0) (end .least) .0 (z .2 ∙ ap (λ c. failed (record { 0 = c })) (sym low)) in
       (z .0, before-reads (z .0) l t (omega (arith, m .all)) .0 (z .1), x .0, x .1)
 
-  pub none-fails : (c : ℕ) → c < end .least → Failing c → ⊥
+  pub none-fails : (c : Factored) → c .0 < end .least .0 → Failing c → ⊥
   none-fails c u z = absurd (omega (arith, low, rw (fails-exactly S A end (z .0) c .1 (z .2, z .3)) at (leastOf-mem (S .n) (fate S A end) (seen [] l t) (z .0) (T-true _ (before-reads (z .0) l t (omega (arith, m .all)) .1 (z .1))))))

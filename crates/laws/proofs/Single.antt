@@ -13,7 +13,8 @@ use Rattle.laws.proofs.Entry.{place-lt, has-of-place, Col, entry-prefix
 use Rattle.statement.specs.Shape.{Shape, first, width, height, rowsOf, trapezoid, size}
 use Rattle.statement.specs.Lists.{has, place}
 use Rattle.statement.specs.Root.{root}
-use Rattle.statement.specs.Rules.{made, broke, andThen, look, entry, column, extend, grow, step, passes}
+use Rattle.statement.specs.Rules.{made, broke, andThen, look, entry, pivotColumn, extend, grow, step, passes}
+use Rattle.statement.specs.declared.Factored.{Factored}
 
 module _ (S : Shape) (A : ℕ → ℕ → Float) (v : List Float) (K : ℕ) where
   grow-suc : (c : ℕ) → grow S A v K (suc c) ≡ andThen (grow S A v K c) (extend S A v K c)
@@ -21,7 +22,7 @@ module _ (S : Shape) (A : ℕ → ℕ → Float) (v : List Float) (K : ℕ) wher
   grow-suc c = refl
 
   -- once broken, broken
-  grow-stuck : (j c : ℕ) → grow S A v K c ≡ broke j → (d : ℕ) → grow S A v K (c + d) ≡ broke j
+  grow-stuck : (j : Factored) (c : ℕ) → grow S A v K c ≡ broke j → (d : ℕ) → grow S A v K (c + d) ≡ broke j
   unfolding andThen
   grow-stuck j c e zero = ap (grow S A v K) (add-zero c) ∙ e
   grow-stuck j c e (suc d) =
@@ -71,8 +72,8 @@ module _ (S : Shape) (A : ℕ → ℕ → Float) (v : List Float) (K : ℕ) (tal
   pivot-same : (c : ℕ) → c < width S K → entry S A v s K (first S K + c) c ≡ pivot c
   pivot-same c h = same-entry c (first S K + c) h (omega (arith, starts c h, tall))
 
-  column-at : (c n : ℕ) → c < w → n < m - c → getD (column S A v (own-of c) K c (pivot c)) n nan ≡ look S K s (getD (rowsOf S K) (c + n) 0) c
-  unfolding column
+  column-at : (c n : ℕ) → c < w → n < m - c → getD (pivotColumn S A v (own-of c) K c (pivot c)) n nan ≡ look S K s (getD (rowsOf S K) (c + n) 0) c
+  unfolding pivotColumn
   column-at c zero h q =
       ap root (sym (pivot-same c (omega arith))) ∙
       sym (ruled c h .diag) ∙
@@ -82,22 +83,22 @@ module _ (S : Shape) (A : ℕ → ℕ → Float) (v : List Float) (K : ℕ) (tal
       let e = at-place (c + suc n) (omega arith) in
       let x = at-has (c + suc n) (omega arith) in
       let lt : c < place i (rowsOf S K) = omega (arith, e) in
-      ap (λ z. getD (column S A v (own-of c) K c (pivot c)) z nan) (sym (ap (λ z. z - c) e ∙ add-sub-cancel-left c (suc n))) ∙
+      ap (λ z. getD (pivotColumn S A v (own-of c) K c (pivot c)) z nan) (sym (ap (λ z. z - c) e ∙ add-sub-cancel-left c (suc n))) ∙
       column-later S A v K tall starts (own-of c) c (pivot c) i x lt ∙
       ap₂ (div binary64) (sym (same-entry c i (omega arith) (place-lt i (rowsOf S K) x))) (ap root (sym (pivot-same c (omega arith)))) ∙
       sym (ruled c h .below i x lt)
 
   -- column c stands in the stretch
-  column-there : (c : ℕ) (h : c < w) → column S A v (own-of c) K c (pivot c) ≡ take (m - c) (drop (trapezoid m c) s)
+  column-there : (c : ℕ) (h : c < w) → pivotColumn S A v (own-of c) K c (pivot c) ≡ take (m - c) (drop (trapezoid m c) s)
   column-there c h =
-      ext-getD nan (column S A v (own-of c) K c (pivot c)) (take (m - c) (drop (trapezoid m c) s))
+      ext-getD nan (pivotColumn S A v (own-of c) K c (pivot c)) (take (m - c) (drop (trapezoid m c) s))
       (lc ∙ sym (length-take-le (m - c) (drop (trapezoid m c) s) (simp length-drop (omega (arith, room (suc c) (omega arith), trap-suc m c)))))
       (λ n q. at n (omega (arith, lc)))
     where
-      lc : length (column S A v (own-of c) K c (pivot c)) ≡ m - c
+      lc : length (pivotColumn S A v (own-of c) K c (pivot c)) ≡ m - c
       lc = column-length S A v K tall (own-of c) c (pivot c) (omega arith)
 
-      at : (n : ℕ) → n < m - c → getD (column S A v (own-of c) K c (pivot c)) n nan ≡ getD (take (m - c) (drop (trapezoid m c) s)) n nan
+      at : (n : ℕ) → n < m - c → getD (pivotColumn S A v (own-of c) K c (pivot c)) n nan ≡ getD (take (m - c) (drop (trapezoid m c) s)) n nan
       at n q = column-at c n h q ∙ row-at c n (omega arith) q ∙ sym (getD-take (m - c) (drop (trapezoid m c) s) n nan q ∙ getD-drop (trapezoid m c) s n nan)
 
   extend-there : (c : ℕ) → c < w → extend S A v K c (own-of c) ≡ made (own-of (suc c))
@@ -113,7 +114,7 @@ module _ (S : Shape) (A : ℕ → ℕ → Float) (v : List Float) (K : ℕ) (tal
   grow-there (suc c) h = ap (λ o. andThen o (extend S A v K c)) (grow-there c (omega arith)) ∙ extend-there c h
 
   breaks : w < width S K → passes (A (first S K + w) (first S K + w)) (entry S A v s K (first S K + w) w) ≡ false →
-      andThen (made (own-of w)) (extend S A v K w) ≡ broke (first S K + w)
+      andThen (made (own-of w)) (extend S A v K w) ≡ broke (record { 0 = first S K + w })
   unfolding andThen extend
   breaks h e = rw (ap (passes (A (first S K + w) (first S K + w))) (sym (pivot-same w h)) ∙ e)
 
@@ -123,12 +124,12 @@ module _ (S : Shape) (A : ℕ → ℕ → Float) (v : List Float) (K : ℕ) (tal
   step-made e = rw (← e) (grow-there w (omega arith) ∙ ap made (take-all (trapezoid m w) s (omega (arith, sized, ap (trapezoid m) e))))
 
   -- the pivot of column w breaks the rule: the step names it
-  pub step-broke : w < width S K → passes (A (first S K + w) (first S K + w)) (entry S A v s K (first S K + w) w) ≡ false → step S A v K ≡ broke (first S K + w)
+  pub step-broke : w < width S K → passes (A (first S K + w) (first S K + w)) (entry S A v s K (first S K + w) w) ≡ false → step S A v K ≡ broke (record { 0 = first S K + w })
   unfolding step
-  step-broke h e = subst (λ z. grow S A v K z ≡ broke (first S K + w)) (add-sub-of-le h) (stuck (width S K - suc w))
+  step-broke h e = subst (λ z. grow S A v K z ≡ broke (record { 0 = first S K + w })) (add-sub-of-le h) (stuck (width S K - suc w))
     where
-      at-w : grow S A v K (suc w) ≡ broke (first S K + w)
+      at-w : grow S A v K (suc w) ≡ broke (record { 0 = first S K + w })
       at-w = grow-suc S A v K w ∙ ap (λ o. andThen o (extend S A v K w)) (grow-there w (omega arith)) ∙ breaks h e
 
-      stuck : (d : ℕ) → grow S A v K (suc w + d) ≡ broke (first S K + w)
-      stuck d = grow-stuck S A v K (first S K + w) (suc w) at-w d
+      stuck : (d : ℕ) → grow S A v K (suc w + d) ≡ broke (record { 0 = first S K + w })
+      stuck d = grow-stuck S A v K (record { 0 = first S K + w }) (suc w) at-w d

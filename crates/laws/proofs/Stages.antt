@@ -10,7 +10,8 @@ use native.Mathlib.Nat.{not-suc-le-zero}
 use lib.Dec.{T, T-not, ltb, eqb, ltb→lt, nltb→le, eqb→eq}
 use lib.ListN.{length}
 use Rattle.statement.specs.Lists.{has, least}
-use Rattle.statement.specs.Answers.{number, test, orElse, answered}
+use Rattle.statement.specs.Answers.{number, test, orElse}
+use Rattle.laws.specs.Answered.{answered}
 use Rattle.statement.specs.Areas.{Need, short}
 use Rattle.laws.specs.Given.{First, nth, Met, Lowest}
 use Rattle.laws.proofs.Bools.{or-cases, or-left, or-right, and-both, eqb-of, le-or-lt, lt-or-le, ltb-reads, nltb-reads}

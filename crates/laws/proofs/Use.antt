@@ -18,7 +18,7 @@ use Rattle.statement.specs.Shape.{Shape, supernodes, first, offset}
 use Rattle.statement.specs.Answers.{test}
 use Rattle.statement.specs.Areas.{Areas}
 use Rattle.statement.specs.Calls.{analysis, recordOf, cleared, settled, analyse, factor}
-use Rattle.statement.specs.Solve.{FactorAreas, factoredIn, shapeIn, isFull, fullRecord, permutes, risingColumns, goodSupernode, risingRows, sized, viewable, solvable, Solved, solveFault, solved, solve}
+use Rattle.statement.specs.Solve.{FactorAreas, factoredIn, shapeIn, isFull, fullRecord, permutes, risingColumns, goodSupernode, risingRows, sized, viewable, solvable, Solved, solveFault, settledSolve, solve}
 use Rattle.statement.specs.declared.Answer.{Answer}
 use Rattle.statement.specs.declared.Answer.the-variants.{NoFactor}
 use Rattle.statement.specs.declared.Order.{Order}
@@ -34,7 +34,7 @@ abbrev pub noFactor : List Float → ℕ → ℕ → Solved
 noFactor b words floats = record { answer = NoFactor; b = b; words = replicate words 0; floats = replicate floats +0 }
 
 pub unsolvable : (R : Record) (f : FactorAreas) (b : List Float) (words floats : ℕ) → solvable R f ≡ false → solve R f b words floats ≡ noFactor b words floats
-unfolding solve solveFault solved test
+unfolding solve solveFault settledSolve test
 unsolvable R f b words floats h = rw h
 
 -- ---- a record that is not full is refused, whatever the areas hold

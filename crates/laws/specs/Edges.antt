@@ -12,17 +12,17 @@ use Rattle.statement.specs.Postorder.{forest, postorder, permutation, renumbere
 use Rattle.statement.specs.Shape.{rowsOf, trapezoid, offset, stretch, put, zeros}
 use Rattle.statement.specs.Shape as shape
 use Rattle.statement.specs.Supernodes.{joins, begins, firstColumns, owner, shapeOf, below, update, updatesOf, updates, updateStarts}
-use Rattle.statement.specs.Tasks.{weight, load, begin, share, fitting, climbed, withTop, withTask, split, splitOf}
+use Rattle.statement.specs.Tasks.{weight, load, subtreeStart, share, fitting, climbed, withTop, withTask, split, splitOf}
 use Rattle.statement.specs.Tasks as tasks
 use Rattle.statement.specs.Root.{finite, abs, magnitude, rootFrom, wholeRoot, nearRoot, rootOfUnits, root}
-use Rattle.statement.specs.Rules.{tolerance, passes, dot, singly, look, andThen, earlier, within, entry, column, extend, grow, step}
+use Rattle.statement.specs.Rules.{tolerance, passes, dot, singly, look, andThen, earlier, within, entry, pivotColumn, extend, grow, step}
 use Rattle.statement.specs.Run.{blank, blocked, fateOf, settle, fate, run, ready, firstBad, orderFault}
 use Rattle.statement.specs.Answers.{test, orElse}
 use Rattle.statement.specs.Areas.{needs, short, held, flat}
-use Rattle.statement.specs.Solve.{Solved, factoredIn, shapeIn, fullRecord, permutes, risingColumns, goodSupernode, risingRows, sized, viewable, solvable, rowsIn, startIn, valuesIn, lessBelow, lessAbove, forwardAt, forward, backwardAt, backward, solution, solveFault, solved, solve}
+use Rattle.statement.specs.Solve.{Solved, factoredIn, shapeIn, fullRecord, permutes, risingColumns, goodSupernode, risingRows, sized, viewable, solvable, rowsIn, startIn, valuesIn, lessBelow, lessAbove, forwardAt, forward, backwardAt, backward, solution, solveFault, settledSolve, solve}
 use Rattle.statement.specs.Job.{hexDigit, hexValue, hex, valueFrom, frame, frameOf, noFrames, begun, withStored, withSide, finished, takes, next, atEnd, read, matrixOf, jobRoom, refusal, success, isAccepted, written}
 use Rattle.statement.specs.Job as jobs
-use Rattle.statement.specs.Calls.{analyse, analyseFault, structureRoom, inputFault, analysis, entryA, Settled, recordOf, areasOf, cleared, settled, later, factorNeeds, factorLater, orderOf, wrongPosition, stopped, factorFault, factor}
+use Rattle.statement.specs.Calls.{analyse, analyseFault, structureRoom, inputFault, analysis, entryA, Settled, recordOf, areasOf, cleared, settled, later, factorNeeds, factorLater, orderOf, wrongPosition, stateAfter, factorFault, factor}
 use Rattle.statement.specs.declared.Original.{Original}
 use Rattle.statement.specs.declared.Answer.{Answer}
 use Rattle.statement.specs.declared.Answer.the-variants.{Accepted, OverCap, WrongOrder, WrongPivot}
@@ -80,13 +80,13 @@ solvedOf s = solution# (s .answer) (bitsOf (s .b))
 unfoldable pub resultOf : Case → Result
 unfolding readOf factoredIn solvedOf bitsOf
     jobs.job written isAccepted success refusal jobRoom matrixOf read atEnd next takes finished withSide withStored begun noFrames frameOf frame valueFrom hex hexValue hexDigit
-    solve solved solveFault solution backward backwardAt forward forwardAt lessAbove lessBelow valuesIn startIn rowsIn solvable viewable sized risingRows goodSupernode risingColumns permutes fullRecord shapeIn
-    analyse analyseFault structureRoom inputFault analysis entryA recordOf areasOf cleared settled later factorNeeds factorLater orderOf wrongPosition stopped factorFault factor
+    solve settledSolve solveFault solution backward backwardAt forward forwardAt lessAbove lessBelow valuesIn startIn rowsIn solvable viewable sized risingRows goodSupernode risingColumns permutes fullRecord shapeIn
+    analyse analyseFault structureRoom inputFault analysis entryA recordOf areasOf cleared settled later factorNeeds factorLater orderOf wrongPosition stateAfter factorFault factor
     needs short held flat test orElse
     blank blocked fateOf settle fate run ready firstBad orderFault
-    tolerance passes dot singly look andThen earlier within entry column extend grow step
+    tolerance passes dot singly look andThen earlier within entry pivotColumn extend grow step
     finite abs magnitude rootFrom wholeRoot nearRoot rootOfUnits root
-    weight load begin share fitting climbed withTop withTask split splitOf tasks.within
+    weight load subtreeStart share fitting climbed withTop withTask split splitOf tasks.inSubtree
     joins begins firstColumns owner shapeOf below update updatesOf updates updateStarts
     rowsOf trapezoid offset stretch put zeros shape.size
     forest postorder permutation renumbered after fill parent value wrongStart goodRows

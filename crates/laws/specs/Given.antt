@@ -14,10 +14,11 @@ use Rattle.statement.specs.Shape.{Shape, supernodes, parentOf}
 use Rattle.statement.specs.Run.{State, blocked}
 use Rattle.statement.specs.Answers.{number}
 use Rattle.statement.specs.Areas.{Need, needs}
-use Rattle.statement.specs.Calls.{Analysis, analysis, entryA, later, analyse, factorNeeds, factorLater, orderOf, stopOf, stopped, factor}
+use Rattle.statement.specs.Calls.{Analysis, analysis, entryA, later, analyse, factorNeeds, factorLater, orderOf, stopOf, stateAfter, factor}
 use Rattle.statement.specs.Solve.{FactorAreas, solvable, solve}
 use Rattle.statement.specs.Demands.{Names, Breaks}
 use Rattle.statement.specs.declared.Original.{Original}
+use Rattle.statement.specs.declared.Factored.{Factored}
 use Rattle.statement.specs.declared.Answer.{Answer}
 use Rattle.statement.specs.declared.Answer.the-variants.{Accepted, OverLimit, WrongLengths, WrongStarts, WrongColumn, ShortArea, OverCap, WrongOrder, WrongPivot, WrongSide, NoFactor}
 use Rattle.statement.specs.declared.Record.{Record}
@@ -151,10 +152,10 @@ module _ (M : Matrix) (cap : ℕ) (o : Order) (l : List ℕ) (e : Stop) (r : Roo
   stop = stopOf (X .shape) e
 
   abbrev pub ran : State
-  ran = stopped M X o l stop
+  ran = stateAfter M X o l stop
 
   -- column c fails within the first t: its supernode is named there, none of its children is halted, and the pivot breaks the rule
-  abbrev pub Fails : ℕ → Type 0
+  abbrev pub Fails : Factored → Type 0
   Fails c = (K : ℕ) × Before order stop K × (blocked (X .shape) (ran .halted) K K ≡ false) × Breaks (X .shape) (entryA M (X .permutation)) (ran .values) K c
 
   abbrev pub Housed : Type 0
@@ -166,8 +167,8 @@ module _ (M : Matrix) (cap : ℕ) (o : Order) (l : List ℕ) (e : Stop) (r : Roo
   pub record FactorGiven : Type 0 where
     pub sizes : SizesGiven M cap (factorNeeds M r) (factorLater X r) factored
     pub wrongOrder : (p : ℕ) → (factored ≡ WrongOrder p) ↔ (Housed × WrongAt (X .shape) order stop p)
-    pub wrongPivot : (k : Original) → (factored ≡ WrongPivot k) ↔ (Ordered × ((c : ℕ) × First Fails (M .n) c × (k ≡ toOriginal (X .permutation) (record { 0 = c }))))
-    pub accepted : (factored ≡ Accepted) ↔ (Ordered × ((c : ℕ) → c < M .n → Fails c → ⊥))
+    pub wrongPivot : (k : Original) → (factored ≡ WrongPivot k) ↔ (Ordered × ((c : Factored) × First (λ j. Fails (record { 0 = j })) (M .n) (c .0) × (k ≡ toOriginal (X .permutation) c)))
+    pub accepted : (factored ≡ Accepted) ↔ (Ordered × ((c : Factored) → c .0 < M .n → Fails c → ⊥))
     pub others : has (number factored) factorNumbers ≡ true
 
 module _ (R : Record) (f : FactorAreas) (b : List Float) (words floats : ℕ) where

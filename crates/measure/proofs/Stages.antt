@@ -11,7 +11,8 @@ use lib.ListN.{length}
 use borrow.Author.Tests.{lt-ltb, le-ltb}
 use Rattle.statement.specs.Input.{Matrix, WellFormed, pattern}
 use Rattle.statement.specs.Fill.{entries}
-use Rattle.statement.specs.Answers.{number, test, orElse, answered}
+use Rattle.statement.specs.Answers.{number, test, orElse}
+use Rattle.laws.specs.Answered.{answered}
 use Rattle.statement.specs.Areas.{Need, needs, short}
 use Rattle.statement.specs.Calls.{inputFault, factorNeeds}
 use Rattle.laws.proofs.Faults.{no-fault, input-accepted}

@@ -8,7 +8,8 @@ use lib.ListN.{drop, replicate}
 use Rattle.statement.specs.Lists.{list, sum}
 use Rattle.statement.specs.Input.{Matrix, WellFormed, pattern}
 use Rattle.statement.specs.Fill.{parent, count, entries}
-use Rattle.statement.specs.Answers.{test, orElse, answered}
+use Rattle.statement.specs.Answers.{test, orElse}
+use Rattle.laws.specs.Answered.{answered}
 use Rattle.statement.specs.Areas.{short}
 use Rattle.statement.specs.Calls.{inputFault, factorNeeds}
 use Rattle.statement.specs.declared.Answer.{Answer}

@@ -15,7 +15,7 @@ use Rattle.statement.specs.Lists.{has, tally, bit, least, rising}
 use Rattle.statement.specs.Shape.{Shape, supernodes, parentOf}
 use Rattle.statement.specs.Run.{ready, firstBad, plain, orderFault}
 use Rattle.statement.specs.Demands.{Names}
-use Rattle.statement.specs.Answers.{answered}
+use Rattle.laws.specs.Answered.{answered}
 use Rattle.statement.specs.Calls.{orderOf, wrongPosition}
 use Rattle.statement.specs.declared.Order.{Order}
 use Rattle.statement.specs.declared.Order.the-variants.{Plain, Listed}

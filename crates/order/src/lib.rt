@@ -8,7 +8,7 @@ ghost use lib.ListN.{length, getD, set};
 ghost use Rattle.statement.specs.Lists.{least};
 ghost use Rattle.statement.specs.Shape.{Shape, supernodes};
 ghost use Rattle.statement.specs.Run.{orderFault};
-ghost use Rattle.statement.specs.Answers.{answered};
+ghost use Rattle.laws.specs.Answered.{answered};
 ghost use Rattle.statement.specs.Calls.{orderOf, stopOf, wrongPosition};
 ghost use Rattle.order.specs.Waiting.{Above, Of, wrongAt};
 use statement::Answer;

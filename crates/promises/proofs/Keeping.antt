@@ -19,7 +19,7 @@ use Rattle.statement.specs.Rules.{Out, made, broke}
 use Rattle.statement.specs.Run.{pass}
 use Rattle.statement.specs.Answers.{number}
 use Rattle.statement.specs.Areas.{held}
-use Rattle.statement.specs.Calls.{analysis, Settled, settled, recordOf, areasOf, orderOf, stopOf, stopped, factorNeeds, factorLater, factorFault, factor}
+use Rattle.statement.specs.Calls.{analysis, Settled, settled, recordOf, areasOf, orderOf, stopOf, stateAfter, factorNeeds, factorLater, factorFault, factor}
 use Rattle.statement.specs.Solve.{factoredIn, view}
 use Rattle.statement.specs.Demands.{Such, Names, S, N, A, ended, after, Completed, Either, Stopped, Demand3}
 use Rattle.statement.specs.declared.Answer.the-variants.{Accepted}
@@ -97,17 +97,17 @@ module _ (M : Matrix) (cap : ℕ) (r : Room) where
   -- by its stop count
   stop-as : (o : Order) (l : List ℕ) (d e : Stop) → stopOf (analysis M .shape) d ≡ stopOf (analysis M .shape) e → factor M cap o l d r ≡ factor M cap o l e r
   unfolding factor
-  stop-as o l d e q = ap (λ t. settled r (factorFault M cap o l t r (analysis M) (stopped M (analysis M) o l t)) (recordOf (cond (ltb t (supernodes (analysis M .shape))) Partial Full) M (analysis M)) (areasOf r (analysis M) (stopped M (analysis M) o l t .values))) q
+  stop-as o l d e q = ap (λ t. settled r (factorFault M cap o l t r (analysis M) (stateAfter M (analysis M) o l t)) (recordOf (cond (ltb t (supernodes (analysis M .shape))) Partial Full) M (analysis M)) (areasOf r (analysis M) (stateAfter M (analysis M) o l t .values))) q
 
   -- as a call with a list
   listed-as : (o : Order) (l : List ℕ) (e : Stop) → factor M cap o l e r ≡ factor M cap Listed (orderOf (analysis M .shape) o l) e r
-  unfolding factor factorFault stopped orderOf
+  unfolding factor factorFault stateAfter orderOf
   listed-as Plain l e = refl
   listed-as Listed l e = refl
 
   -- the plain order takes no notice of a list
   beside-as : (l : List ℕ) (e : Stop) → factor M cap Plain l e r ≡ factor M cap Plain [] e r
-  unfolding factor factorFault stopped orderOf
+  unfolding factor factorFault stateAfter orderOf
   beside-as l e = refl
 
   -- ---- what was left, from what is said of it

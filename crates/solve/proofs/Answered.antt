@@ -9,7 +9,7 @@ use lib.Ieee.{Float}
 use borrow.Author.Tests.{lt-ltb, le-ltb, eq-eqb, ne-eqb}
 use Rattle.statement.specs.Input.{+0}
 use Rattle.statement.specs.Answers.{test}
-use Rattle.statement.specs.Solve.{FactorAreas, shapeIn, solvable, solution, Solved, solveFault, solved, solve}
+use Rattle.statement.specs.Solve.{FactorAreas, shapeIn, solvable, solution, Solved, solveFault, settledSolve, solve}
 use Rattle.statement.specs.declared.Answer.{Answer}
 use Rattle.statement.specs.declared.Answer.the-variants.{Accepted, WrongSide, NoFactor, ShortArea}
 use Rattle.statement.specs.declared.Record.{Record}
@@ -19,38 +19,38 @@ module _ (R : Record) (f : FactorAreas) (b : List Float) (words floats : ℕ) wh
   Ends a x = (a ≡ solve R f b words floats .answer) × (x ≡ solve R f b words floats .b)
 
   pub no-factor : solvable R f ≡ false → Ends NoFactor b
-  unfolding solve solveFault solved test
+  unfolding solve solveFault settledSolve test
   no-factor h = (rw h, rw h)
 
   module _ (h : solvable R f ≡ true) where
     pub wrong-side : (length b ≡ R .n → ⊥) → Ends (WrongSide (length b)) b
-    unfolding solve solveFault solved test
+    unfolding solve solveFault settledSolve test
     wrong-side e = (rw (h, ne-eqb (length b) (R .n) e), rw (h, ne-eqb (length b) (R .n) e))
 
     module _ (e : length b ≡ R .n) where
       pub short-words : words < R .n → Ends (ShortArea 7 (R .n)) b
-      unfolding solve solveFault solved test
+      unfolding solve solveFault settledSolve test
       short-words l = (rw (h, eq-eqb (length b) (R .n) e, lt-ltb words (R .n) l), rw (h, eq-eqb (length b) (R .n) e, lt-ltb words (R .n) l))
 
       module _ (k : R .n ≤ words) where
         pub short-floats : floats < R .n → Ends (ShortArea 8 (R .n)) b
-        unfolding solve solveFault solved test
+        unfolding solve solveFault settledSolve test
         short-floats l = (
           rw (h, eq-eqb (length b) (R .n) e, le-ltb words (R .n) k, lt-ltb floats (R .n) l),
           rw (h, eq-eqb (length b) (R .n) e, le-ltb words (R .n) k, lt-ltb floats (R .n) l),
         )
 
         pub accepted : R .n ≤ floats → (x : List Float) → x ≡ solution (R .n) (f .permutation) (shapeIn R f) (f .values) b → Ends Accepted x
-        unfolding solve solveFault solved test
+        unfolding solve solveFault settledSolve test
         accepted l x z = (
           rw (h, eq-eqb (length b) (R .n) e, le-ltb words (R .n) k, le-ltb floats (R .n) l),
           rw (h, eq-eqb (length b) (R .n) e, le-ltb words (R .n) k, le-ltb floats (R .n) l) z,
         )
 
 -- scratch is zero after every call
-whole : (o : Option Answer) (b x : List Float) (words floats : ℕ) (a : Answer) (y : List Float) (w : List ℕ) (z : List Float) → a ≡ solved o b x words floats .answer → y ≡ solved o b x words floats .b
-    → w ≡ replicate words 0 → z ≡ replicate floats +0 → _≡_ {A = Solved} (record { answer = a; b = y; words = w; floats = z }) (solved o b x words floats)
-unfolding solved
+whole : (o : Option Answer) (b x : List Float) (words floats : ℕ) (a : Answer) (y : List Float) (w : List ℕ) (z : List Float) → a ≡ settledSolve o b x words floats .answer → y ≡ settledSolve o b x words floats .b
+    → w ≡ replicate words 0 → z ≡ replicate floats +0 → _≡_ {A = Solved} (record { answer = a; b = y; words = w; floats = z }) (settledSolve o b x words floats)
+unfolding settledSolve
 whole none b x words floats a y w z p q r s = λ i. record { answer = p i; b = q i; words = r i; floats = s i }
 whole (some c) b x words floats a y w z p q r s = λ i. record { answer = p i; b = q i; words = r i; floats = s i }
 

@@ -12,7 +12,7 @@ use lib.ListN.{length, getD, set, drop, length-set}
 use lib.Seq.{getD-set-same, getD-set-other}
 use Rattle.statement.specs.Lists.{bit, tally, joined}
 use Rattle.statement.specs.Fill.{parent}
-use Rattle.laws.specs.Tree.{Up, here, step}
+use Rattle.statement.specs.Postorder.{Up, here, step}
 use Rattle.laws.proofs.Bools.{split-at, eqb-yes, eqb-no, T-dec}
 use Rattle.laws.proofs.Select.{select-length}
 use Rattle.laws.proofs.Fill.{parent-above, row}

@@ -7,7 +7,8 @@ use Prim.Native.Nat.{ℕ, _≤_}
 use native.Mathlib.Omega.{arith}
 use lib.Dec.{eqb}
 use borrow.Author.Tests.{eqb-true, eqb-false, ne-eqb}
-use Rattle.statement.specs.Answers.{number, answered}
+use Rattle.statement.specs.Answers.{number}
+use Rattle.laws.specs.Answered.{answered}
 use Rattle.statement.specs.Record.{emptyRecord}
 use Rattle.statement.specs.Areas.{Areas}
 use Rattle.statement.specs.Calls.{settled, cleared}

@@ -12,7 +12,8 @@ use Rattle.statement.specs.Input.{Matrix, WellFormed, pattern}
 use Rattle.statement.specs.Fill.{parent, count, entries}
 use Rattle.statement.specs.Postorder as postorder
 use Rattle.statement.specs.Supernodes.{shapeOf, updates, updateStarts}
-use Rattle.statement.specs.Answers.{test, orElse, answered}
+use Rattle.statement.specs.Answers.{test, orElse}
+use Rattle.laws.specs.Answered.{answered}
 use Rattle.statement.specs.Areas.{short, needs}
 use Rattle.statement.specs.Calls.{analysis, factorNeeds, factorLater, later}
 use Rattle.statement.specs.declared.Answer.{Answer}

@@ -11,7 +11,8 @@ use Rattle.statement.specs.Fill.{parent, count, entries}
 use Rattle.statement.specs.Postorder as postorder
 use Rattle.statement.specs.Shape.{supernodes}
 use Rattle.statement.specs.Supernodes.{updates, updateStarts}
-use Rattle.statement.specs.Answers.{test, orElse, answered}
+use Rattle.statement.specs.Answers.{test, orElse}
+use Rattle.laws.specs.Answered.{answered}
 use Rattle.statement.specs.Areas.{short, held}
 use Rattle.statement.specs.Calls.{analysis, factorNeeds, factorLater}
 use Rattle.statement.specs.declared.Answer.{Answer}

@@ -12,7 +12,7 @@ use lib.ListN.{length, getD, set, length-set}
 use lib.Seq.{getD-set-same, getD-set-other}
 use Rattle.statement.specs.Lists.{sum}
 use Rattle.statement.specs.Shape.{Shape, supernodes, parentOf}
-use Rattle.statement.specs.Tasks.{weight, load, begin}
+use Rattle.statement.specs.Tasks.{weight, load, subtreeStart}
 use Rattle.laws.specs.Pass.{Loads, raise, loads}
 use Rattle.laws.proofs.Bools.{split-at, ltb-yes}
 use Rattle.laws.proofs.Sum.{sum-ext}
@@ -185,7 +185,7 @@ module _ {ns : ℕ} {up d s : List ℕ} {k : ℕ} (w : Leading ns up d s k) (a :
         (λ R ne l. getD-set-other s (getD up k 0) R x 0 ne ∙ w .is S g R l ∙ sym (raise-next S k .begin-off R (λ q. ne (q ∙ sym (g .are .at k h))))));
   }
 
-  pub leading-over : ns ≤ k → (S : Shape) → Parented S ns up → Holds (begin S) ns s
+  pub leading-over : ns ≤ k → (S : Shape) → Parented S ns up → Holds (subtreeStart S) ns s
   leading-over h S g = let e : k ≡ ns = omega (arith, w .to) in record {
     fits = omega (arith, w .len);
     at = λ R l. w .is S g R l ∙ ap (λ z. getD (loads S z .begin) R 0) (e ∙ sym (g .number)) ∙ begins-are S (rising g a) R (rw (g .number) l);

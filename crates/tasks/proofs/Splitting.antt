@@ -7,7 +7,7 @@ use lib.Seq.{getD-take, getD-drop, drop-at}
 use borrow.Rule.Slice.PartMut.{putMid}
 use Rattle.statement.specs.Lists.{sum, list}
 use Rattle.statement.specs.Shape.{Shape, supernodes, parentOf}
-use Rattle.statement.specs.Tasks.{Split, weight, load, begin, share, split, splitOf}
+use Rattle.statement.specs.Tasks.{Split, weight, load, subtreeStart, share, split, splitOf}
 use Rattle.laws.proofs.Sum.{sum-ext}
 use Rattle.areas.specs.Buckets.{Holds}
 use Rattle.areas.proofs.Held.{held-over}
@@ -57,7 +57,7 @@ module _ (ns : ℕ) (w ys zs : List ℕ) (long : 3 * ns + 3 ≤ length w) (ly : 
   two-length : length two ≡ 2 * ns + 2 + length zs
   two-length = simp (length-append, length-take) (omega (arith, one-length))
 
-  pub spread : (S : Shape) → Weighed S ns w → Holds (begin S) ns ys → Holds (parentOf S) ns zs → Spread S ns two
+  pub spread : (S : Shape) → Weighed S ns w → Holds (subtreeStart S) ns ys → Holds (parentOf S) ns zs → Spread S ns two
   spread S a b c = record {
     loaded = record { fits = omega (arith, two-length); at = λ j h. first j (omega arith) ∙ a .loaded .at j h };
     total = first ns (omega arith) ∙ a .total;
@@ -75,7 +75,7 @@ module _ (ns : ℕ) (w ys zs : List ℕ) (long : 3 * ns + 3 ≤ length w) (ly : 
   back-is : back ≡ two
   back-is = tail-back (2 * ns + 2) mid zs ∙ ap (λ l. take (2 * ns + 2) l ++ zs) (tail-back (ns + 1) w ys)
 
-  pub spread-back : (S : Shape) → Weighed S ns w → Holds (begin S) ns ys → Holds (parentOf S) ns zs → Spread S ns back
+  pub spread-back : (S : Shape) → Weighed S ns w → Holds (subtreeStart S) ns ys → Holds (parentOf S) ns zs → Spread S ns back
   spread-back S a b c = rw back-is (spread S a b c)
 
   pub above-back : Above ns zs → Above ns (drop (2 * ns + 2) back)

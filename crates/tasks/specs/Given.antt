@@ -7,7 +7,7 @@ use lib.Dec.{eqb, leb, ltb}
 use lib.ListN.{length, getD, drop}
 use Rattle.statement.specs.Lists.{sum}
 use Rattle.statement.specs.Shape.{Shape, supernodes, width, height, parentOf}
-use Rattle.statement.specs.Tasks.{weight, load, begin, Split}
+use Rattle.statement.specs.Tasks.{weight, load, subtreeStart, Split}
 use Rattle.statement.specs.Areas.{held, flat}
 use Rattle.areas.specs.Buckets.{Holds}
 
@@ -42,7 +42,7 @@ pub record Given (S : Shape) (ns : ℕ) (firsts starts parents : List ℕ) : Typ
 -- with the loads and the starts of the subtrees
 pub record Tabled (S : Shape) (ns : ℕ) (parents begins loads : List ℕ) : Type 0 where
   pub tree : Parented S ns parents
-  pub starting : Holds (begin S) ns begins
+  pub starting : Holds (subtreeStart S) ns begins
   pub loaded : Holds (load S) ns loads
 
 -- ---- what is worked out
@@ -69,7 +69,7 @@ pub record Weighed (S : Shape) (ns : ℕ) (loads : List ℕ) : Type 0 where
 pub record Spread (S : Shape) (ns : ℕ) (words : List ℕ) : Type 0 where
   pub loaded : Holds (load S) ns words
   pub total : getD words ns 0 ≡ sum (weight S) (supernodes S)
-  pub starting : Holds (begin S) ns (drop (ns + 1) words)
+  pub starting : Holds (subtreeStart S) ns (drop (ns + 1) words)
   pub are : Holds (parentOf S) ns (drop (2 * ns + 2) words)
 
 -- ---- what is left in the two areas: t tasks and o top entries

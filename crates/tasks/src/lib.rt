@@ -6,7 +6,7 @@ ghost use Prim.Native.Nat.{ℕ, suc, _+_, _-_, _*_, _≤_, _<_, _/_, _^_, min, m
 ghost use lib.ListN.{length, getD, set, drop};
 ghost use Rattle.statement.specs.Lists.{sum, list};
 ghost use Rattle.statement.specs.Shape.{Shape, supernodes};
-ghost use Rattle.statement.specs.Tasks.{begin, climbed, split, splitOf};
+ghost use Rattle.statement.specs.Tasks.{subtreeStart, climbed, split, splitOf};
 ghost use Rattle.areas.specs.Buckets.{Holds};
 ghost use Rattle.tasks.specs.Given.{Above, Sized, Parented, Given, Tabled, Loaded, Weighed, Spread, Cut, Parts, weightIn, fitsIn};
 use areas::clear_words;
@@ -83,7 +83,7 @@ fn less(a: usize, b: usize) -> usize
 fn raise_begins(ns: usize, parents: &[usize], to: &mut [usize])
     requires { ⌜ Above ns (now parents) ⌝ }
     requires { ⌜ (ns < length (now to)) × Holds (λ k. k) ns (now to) ⌝ }
-    ensures { λ _. ⌜ ((S : Shape) → Parented S ns (now (parents .entry)) → Holds (begin S) ns (now (to .exit))) ⌝ }
+    ensures { λ _. ⌜ ((S : Shape) → Parented S ns (now (parents .entry)) → Holds (subtreeStart S) ns (now (to .exit))) ⌝ }
 {
     let mut k = 0;
     while k < ns {
@@ -227,7 +227,7 @@ fn loads(ns: usize, firsts: &[usize], starts: &[usize], parents: &[usize], to: &
 fn begins(ns: usize, parents: &[usize], to: &mut [usize])
     requires { ⌜ Above ns (now parents) ⌝ }
     requires { ⌜ ns < length (now to) ⌝ }
-    ensures { λ _. ⌜ ((S : Shape) → Parented S ns (now (parents .entry)) → Holds (begin S) ns (now (to .exit))) ⌝ }
+    ensures { λ _. ⌜ ((S : Shape) → Parented S ns (now (parents .entry)) → Holds (subtreeStart S) ns (now (to .exit))) ⌝ }
 {
     own_begins(ns, to);
     raise_begins(ns, parents, to);

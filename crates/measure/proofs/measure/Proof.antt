@@ -2,7 +2,8 @@
 use Rattle.measure.proofs.Stages.{at-input, well, at-room, enough, at-cap, past-cap, long, stopped}
 use Rattle.tree.proofs.Totals.{counts-to, entries-are, work-is}
 use Rattle.room.proofs.Short.{accepted-first}
-use Rattle.statement.specs.Answers.{answered, number}
+use Rattle.statement.specs.Answers.{number}
+use Rattle.laws.specs.Answered.{answered}
 use Rattle.statement.specs.Calls.{factorNeeds}
 use Rattle.statement.specs.Input.{matrix, pattern}
 use native.Mathlib.Omega.{arith}

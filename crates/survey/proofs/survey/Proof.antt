@@ -3,7 +3,7 @@ use lib.ListN.{length}
 use Prim.Native.Nat.{_≤_}
 use native.Mathlib.Omega.{arith}
 use mathlib.Core.Path.{refl, sym, ap, _∙_}
-use Rattle.statement.specs.Answers.{answered}
+use Rattle.laws.specs.Answered.{answered}
 use Rattle.statement.specs.Input.{matrix}
 use Rattle.room.proofs.Short.{accepted-first}
 use Rattle.updates.specs.Layout.{placesAt, ownersAt}
