@@ -39,7 +39,7 @@ use Rattle.laws.proofs.Analysed as analysed
 use Rattle.laws.proofs.Faults.{entries-fit}
 use Rattle.laws.proofs.Finite.{fits-entry}
 use Rattle.laws.proofs.RootFinite.{pivot-positive}
-use Rattle.laws.proofs.RootNearest.{rootOf-is}
+use Rattle.laws.proofs.RootNearest.{root-nearest}
 use Rattle.laws.proofs.Ranks.{list-length}
 use Rattle.laws.proofs.Shapes.{rows, firsts-length}
 use Rattle.laws.proofs.Shapes as shapes
@@ -137,7 +137,7 @@ module _ (M : Matrix) (cap : ℕ) (r : Room) (such : Such M cap r) where
   rooted : (v : List Float) (K c : ℕ) → Obeys (S M) (A M) v K c → Rooted M v K c
   rooted v K c h = record {
     passed = h .pivot;
-    diagonal = rw (h .diagonal) (rootOf-is d (fits-entry (S M) (A M) (entries-fit M (such .numbers) (X M .permutation)) v (stretch (S M) v K) K j c) (pivot-positive (A M j j) d (h .pivot)));
+    diagonal = rw (h .diagonal) (root-nearest d (fits-entry (S M) (A M) (entries-fit M (such .numbers) (X M .permutation)) v (stretch (S M) v K) K j c) (pivot-positive (A M j j) d (h .pivot)));
     below = λ i m k. rw (h .diagonal) (h .below i m k);
   }
     where

@@ -199,7 +199,7 @@ module _ (M : Matrix) (cap : ℕ) (r : Room) (such : Such M cap r) (o : Order) (
     least : s .least .0 < n → Least M q t (s .least)
     least u =
         let z = turning.least (S M) (A M) ok q m t h (omega (arith, shape-n)) in
-        record { y = z .0; within = z .1; fails = z .2; lowest = lowest }
+        record { y = z .0; inside = z .1; fails = z .2; lowest = lowest }
       where
         lowest : (z : ℕ) (d : Factored) → z < t → turn z ≡ failed d → s .least .0 ≤ d .0
         lowest = turning.lowest (S M) (A M) ok q m t h
@@ -211,7 +211,7 @@ module _ (M : Matrix) (cap : ℕ) (r : Room) (such : Such M cap r) (o : Order) (
     lowest = turning.lowest (S M) (A M) ok q m t h
 
     calm-least : Calm M q t → n ≤ s .least .0
-    calm-least f = ⊎-elim (λ (u : s .least .0 < n). let z = least u in absurd (f (z .y) (s .least) (z .within) (z .fails))) (λ (u : n ≤ s .least .0). u) (lt-or-le (s .least .0) n)
+    calm-least f = ⊎-elim (λ (u : s .least .0 < n). let z = least u in absurd (f (z .y) (s .least) (z .inside) (z .fails))) (λ (u : n ≤ s .least .0). u) (lt-or-le (s .least .0) n)
 
     accepted-least : call (After t) .returned .answer ≡ Accepted → n ≤ s .least .0
     accepted-least a = ⊎-elim (λ (u : s .least .0 < n). absurd (not-both _ (name (s .least)) a (wild-refused u))) (λ (u : n ≤ s .least .0). u) (lt-or-le (s .least .0) n)
@@ -234,9 +234,9 @@ module _ (M : Matrix) (cap : ℕ) (r : Room) (such : Such M cap r) (o : Order) (
         from z =
             let c = z .0 in
             let y = z .1 in
-            let u : s .least .0 < n = omega (arith, lowest (y .y) c (y .within) (y .fails), below (y .y) c (y .within) (y .fails)) in
+            let u : s .least .0 < n = omega (arith, lowest (y .y) c (y .inside) (y .fails), below (y .y) c (y .inside) (y .fails)) in
             let x = least u in
-            let e : s .least .0 ≡ c .0 = omega (arith, lowest (y .y) c (y .within) (y .fails), y .lowest (x .y) (s .least) (x .within) (x .fails)) in
+            let e : s .least .0 ≡ c .0 = omega (arith, lowest (y .y) c (y .inside) (y .fails), y .lowest (x .y) (s .least) (x .inside) (x .fails)) in
             wild-refused u ∙ ap (λ d. WrongPivot (name (record { 0 = d }))) e ∙ ap WrongPivot (sym (z .2))
 
     named-in : (y : ℕ) → y < t → has (getD q y 0) (take t q) ≡ true

@@ -119,7 +119,7 @@ module _ (M : Matrix) where
     -- c is the least failing column within the first t
     pub record Least (t : ℕ) (c : Factored) : Type 0 where
       pub y : ℕ
-      pub within : y < t
+      pub inside : y < t
       pub fails : turn y ≡ failed c
       pub lowest : (z : ℕ) (d : Factored) → z < t → turn z ≡ failed d → c .0 ≤ d .0
 
