@@ -11,7 +11,6 @@ use borrow.Author.Tests.{le-ltb}
 use Rattle.statement.specs.Input.{Matrix, WellFormed, pattern}
 use Rattle.statement.specs.Shape.{supernodes}
 use Rattle.statement.specs.Supernodes.{updates}
-use Rattle.statement.specs.Answers.{number}
 use Rattle.statement.specs.Areas.{needs}
 use Rattle.statement.specs.Calls.{analysis, settled, factorNeeds, factorLater, later, factor}
 use Rattle.statement.specs.Solve.{shapeIn, solution, solveFault, settledSolve, solve}
