@@ -17,13 +17,13 @@ use Rattle.statement.specs.Lists.{has}
 use Rattle.statement.specs.Input.{Matrix, pattern}
 use Rattle.statement.specs.Fill.{entries}
 use Rattle.statement.specs.Postorder.{permutation, toOriginal}
-use Rattle.statement.specs.Shape.{Shape, supernodes, offset, stretch, put, zeros}
+use Rattle.statement.specs.Shape.{Shape, supernodes, width, offset, stretch, put, zeros}
 use Rattle.statement.specs.Rules.{Out, made, broke, andThen, step}
 use Rattle.statement.specs.Run.{State, Fate, failed, start, fate, run, pass, plain, orderFault, firstBad}
 use Rattle.statement.specs.Answers.{number, test, orElse}
 use Rattle.statement.specs.Record.{emptyRecord}
 use Rattle.statement.specs.Calls.{Analysis, analysis, entryA, Settled, settled, Factors, recordOf, areasOf, cleared, orderOf, stopOf, wrongPosition, stateAfter, factorFault, factor}
-use Rattle.statement.specs.Demands.{Such, Names, Breaks}
+use Rattle.statement.specs.Demands.{Such, Names, Obeys, Breaks}
 use Rattle.statement.specs.declared.Factored.{Factored}
 use Rattle.statement.specs.declared.Original.{Original}
 use Rattle.statement.specs.declared.Answer.{Answer}
@@ -123,6 +123,12 @@ module _ (M : Matrix) (cap : ℕ) (r : Room) (such : Such M cap r) (o : Order) (
       go : (p : Out) → Either M r (call e) p → ((v : List Float) × Completed M r (call e) v) ⊎ ((k : Original) × Refused M r (call e) k)
       go (made v) h = inl (v, h)
       go (broke c) h = inr (toOriginal (X M .permutation) c, h)
+
+  ruled : (e : Stop) → stopOf (S M) e ≡ N M → (v : List Float) → length v ≡ entries (pattern M) n → ((K c : ℕ) → K < N M → c < width (S M) K → Obeys (S M) (A M) v K c) → Completed M r (call e) v
+  ruled e w v k h =
+      let p : pass (S M) (A M) (N M) ≡ made v = unfold analysis in ending.ruled M cap r such q (unfold analysis in m) v k (unfold analysis in h) in
+      let c : Either M r (call e) (made v) = rw p at (ended-as e w) in
+      c
 
   not-both : (a : Answer) (k : Original) → a ≡ Accepted → a ≡ WrongPivot k → ⊥
   not-both a k e f = omega (arith, ap number (sym e ∙ f))
@@ -270,6 +276,7 @@ module _ (M : Matrix) (cap : ℕ) (r : Room) (such : Such M cap r) (o : Order) (
     either = λ e x w f. rw f (either e w);
     places = places M (such .well);
     accepts = λ e x w f. rw f (accepts e w);
+    exactly = λ e x w f v. rw f ((λ c. (c .filled, c .rules)), (λ h. ruled e w v (h .0) (h .1)));
     refuses = λ e x w f k. rw f (refuses e k w);
     calm = λ t x h f. rw f (calm t h);
     stops = λ t x h f c. rw f (stops t h c);
