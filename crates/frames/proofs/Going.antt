@@ -124,7 +124,7 @@ pub record Going (text st₀ ro₀ : List ℕ) (va₀ ri₀ : List Float) (st ro
   pub room : Enough st₀ ro₀ va₀ ri₀
 
 abbrev noneP : Progress
-noneP = record { stage = 0; n = 0; cap = 0; known = 0; count = 0; given = 0 }
+noneP = record { stage = 0; n = 0; cap = 0; known = record { 0 = 0 }; count = 0; given = 0 }
 
 held-one : (st : List ℕ) → 0 < length st → st ≡ replicate (length st) 0 → st ≡ held (length st) 0 (0 ∷ [])
 unfolding held

@@ -81,7 +81,7 @@ takes-counted j u (stored column row bits) i g e =
     let s = stored-says (stageOf (j .phase)) (j .n) (lastColumn (j .columns)) (length (j .columns)) column (w .0) in
     let z = g .form .bare (s .stage-is) in
     let o = ends-open (j .phase) (omega (arith, s .stage-is)) (omega (arith, s .stage-is)) in
-    let m = length-append (j .columns) (column ∷ []) in
+    let m = length-append (j .columns) (column .0 ∷ []) in
     subst (λ (x : Frames). u + 26 + 1 ≤ ends (x .phase) + 27 * length (x .columns) + 23 * length (x .b)) (w .1) (omega (arith, g .bound))
 takes-counted j u (side position bits) i g e =
     let w = cond-some _ _ i (sym (side-takes (j .phase) j position bits) ∙ e) in
