@@ -11,7 +11,7 @@ use native.Mathlib.Omega.{arith}
 use borrow.Author.Tests.{eqb-true}
 use lib.Dec.{eqb}
 use lib.ListN.{length, take, length-append}
-use lib.Seq.{take-all, take-length}
+use lib.Seq.{take-all, take-take, take-length}
 use Rattle.statement.specs.Job.{valueFrom, Frame, begin, stored, side, end, frame, frameOf, Phase, unbegun, storing, siding, ended, Frames, noFrames, takes, next, fault, read, written, job, textLimit, ReadIn}
 use Rattle.laws.proofs.Bools.{le-or-lt}
 use Rattle.frames.specs.Held.{stageOf, lastColumn, Form, readingOf}
@@ -164,6 +164,11 @@ take-least l m =
     ⊎-elim (λ h. ap (λ (k : ℕ). take k l) (min-eq-left h) ∙ take-length l ∙ sym (take-all m l h))
     (λ h. ap (λ (k : ℕ). take k l) (min-eq-right (le-of-lt h))) (le-or-lt (length l) m)
 
--- so what is read of a text says what the text says
-pub job-read : (text buffer : List ℕ) (k : ℕ) → ReadIn text buffer k → job (take k buffer) ≡ job text
-job-read text buffer k h = ap job (h .1 ∙ ap (λ (m : ℕ). take m text) (h .0) ∙ take-least text textLimit) ∙ sym (job-limit text)
+-- so what is read of a text into a buffer that is long enough says what the text says
+pub job-read : (text buffer : List ℕ) (k : ℕ) → textLimit ≤ length buffer → ReadIn text buffer k → job (take k buffer) ≡ job text
+job-read text buffer k l h =
+    let m = length buffer in
+    ap job (h .1 ∙ ap (λ (m : ℕ). take m text) (h .0) ∙ take-least text m)
+    ∙ job-limit (take m text)
+    ∙ ap job (take-take textLimit m text l)
+    ∙ sym (job-limit text)
