@@ -8,7 +8,7 @@ use Prim.Native.Nat.{ℕ, suc, _≤_, _<_}
 use native.Mathlib.Omega.{arith}
 use native.Mathlib.Nat.{le-refl}
 use native.Mathlib.Decide.{le-ind}
-use lib.Dec.{T, ltb}
+use lib.Dec.{ltb}
 use lib.ListN.{length, getD, take}
 use lib.Seq.{take-all}
 use borrow.Author.Tests.{lt-ltb, le-ltb}
@@ -17,12 +17,11 @@ use Rattle.statement.specs.Lists.{has}
 use Rattle.statement.specs.Input.{Matrix, pattern}
 use Rattle.statement.specs.Fill.{entries}
 use Rattle.statement.specs.Postorder.{permutation, toOriginal}
-use Rattle.statement.specs.Shape.{Shape, supernodes, width, offset, stretch, put, zeros}
+use Rattle.statement.specs.Shape.{Shape, supernodes, width, offset, stretch, put}
 use Rattle.statement.specs.Rules.{Out, made, broke, andThen, step}
-use Rattle.statement.specs.Run.{State, Fate, failed, start, fate, run, pass, plain, orderFault, firstBad}
+use Rattle.statement.specs.Run.{State, Fate, failed, start, fate, run, pass, plain, firstBad}
 use Rattle.statement.specs.Answers.{number, test, orElse}
-use Rattle.statement.specs.Record.{emptyRecord}
-use Rattle.statement.specs.Calls.{Analysis, analysis, entryA, Settled, settled, Factors, recordOf, areasOf, cleared, orderOf, stopOf, wrongPosition, stateAfter, factorFault, factor}
+use Rattle.statement.specs.Calls.{analysis, Settled, settled, recordOf, areasOf, orderOf, stopOf, wrongPosition, stateAfter, factorFault, factor}
 use Rattle.statement.specs.Demands.{Such, Names, Obeys, Breaks}
 use Rattle.statement.specs.declared.Factored.{Factored}
 use Rattle.statement.specs.declared.Original.{Original}
@@ -34,7 +33,7 @@ use Rattle.statement.specs.declared.Room.{Room}
 use Rattle.statement.specs.declared.Stage.the-variants.{Partial, Full}
 use Rattle.statement.specs.declared.Stop.{Stop}
 use Rattle.statement.specs.declared.Stop.the-variants.{End, After}
-use Rattle.laws.specs.Built.{Built, Sound}
+use Rattle.laws.specs.Built.{Sound}
 use Rattle.laws.specs.Numbered.{factored, shape}
 use Rattle.laws.proofs.Analysed as analysed
 use Rattle.laws.proofs.Bools.{lt-or-le}
@@ -43,10 +42,10 @@ use Rattle.laws.proofs.Fails.{breaks-step}
 use Rattle.laws.proofs.Faults.{no-fault}
 use Rattle.laws.proofs.Listed.{order-exactly}
 use Rattle.laws.proofs.Names.{names-good, in-order, plain-in-order, length-rising}
-use Rattle.laws.proofs.Order.{leastOf-le, named, never}
+use Rattle.laws.proofs.Order.{leastOf-le, named}
 use Rattle.laws.proofs.Sizes.{never-differs}
 use Rattle.laws.proofs.Skip.{stopped-done}
-use Rattle.promises.specs.Third.{X, S, N, A, Whole, Meets, Completed, Refused, Calm, Least, Stopped, Turns, Demand3, DemandThree}
+use Rattle.promises.specs.Third.{X, S, N, A, Meets, Completed, Refused, Calm, Least, Stopped, Turns, Demand3, DemandThree}
 use Rattle.promises.specs.Third as third
 use Rattle.promises.proofs.Places.{places}
 use Rattle.promises.proofs.Turning.{has-at, at-has}
