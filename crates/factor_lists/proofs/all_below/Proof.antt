@@ -1,12 +1,12 @@
--- `checks::all_below` meets its contract: those passed are below n. Assumes nothing.
+-- `factor_lists::all_below` meets its contract: those passed are below n. Assumes nothing.
 use Prim.Native.Nat.{_-_}
 use native.Mathlib.Omega.{arith}
 use lib.Dec.{ltb}
 use lib.ListN.{length, getD}
 use borrow.Author.Tests.{lt-ltb, le-ltb}
 use Rattle.laws.proofs.Every.{Tested, tested-start, tested-more, tested-stop, tested-over}
-use Rattle.checks.proofs.all_below.Statement.{statement}
-use Rattle.checks.proofs.all_below.Tie as tie
+use Rattle.factor_lists.proofs.all_below.Statement.{statement}
+use Rattle.factor_lists.proofs.all_below.Tie as tie
 
 abbrev Inv-loop : tie.InvT-loop
 Inv-loop l n i₀ i = Tested (λ x. ltb (getD l x 0) n) (length l) i

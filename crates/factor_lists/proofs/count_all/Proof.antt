@@ -1,4 +1,4 @@
--- `checks::count_all` meets its contract: each word counts its number among those passed. Assumes nothing.
+-- `factor_lists::count_all` meets its contract: each word counts its number among those passed. Assumes nothing.
 use mathlib.Core.Path.{_≡_, refl}
 use Prim.Native.Nat.{ℕ, _-_, _≤_, _<_}
 use native.Mathlib.Omega.{arith}
@@ -6,9 +6,9 @@ use lib.Dec.{eqb}
 use lib.ListN.{length, getD, length-set}
 use Rattle.statement.specs.Lists.{tally}
 use Rattle.laws.proofs.Tally.{count-to}
-use Rattle.checks.proofs.Named.{none-named, one-named}
-use Rattle.checks.proofs.count_all.Statement.{statement}
-use Rattle.checks.proofs.count_all.Tie as tie
+use Rattle.factor_lists.proofs.Named.{none-named, one-named}
+use Rattle.factor_lists.proofs.count_all.Statement.{statement}
+use Rattle.factor_lists.proofs.count_all.Tie as tie
 
 abbrev Inv-loop : tie.InvT-loop
 Inv-loop n p words₀ k₀ words k = (k ≤ n) × (length words ≡ length words₀) × ((v : ℕ) → v < n → getD words v 0 ≡ tally (λ a. eqb (getD p a 0) v) k)

@@ -1,12 +1,12 @@
--- `checks::rising_columns` meets its contract, test by test. Assumes nothing.
+-- `factor_lists::rising_columns` meets its contract, test by test. Assumes nothing.
 use mathlib.Core.Path.{_≡_}
 use Prim.Native.Nat.{_-_}
 use native.Mathlib.Omega.{arith}
 use lib.ListN.{length}
 use borrow.Author.Tests.{eq-eqb, ne-eqb}
 use Rattle.statement.specs.Solve.{risingColumns}
-use Rattle.checks.proofs.rising_columns.Statement.{statement}
-use Rattle.checks.proofs.rising_columns.Tie as tie
+use Rattle.factor_lists.proofs.rising_columns.Statement.{statement}
+use Rattle.factor_lists.proofs.rising_columns.Tie as tie
 
 shared-slice-read-if1 : tie.Need-shared-slice-read-if1
 shared-slice-read-if1 c = omega arith

@@ -1,4 +1,4 @@
--- `checks::count` meets its contract: t counts those passed. Assumes nothing.
+-- `factor_lists::count` meets its contract: t counts those passed. Assumes nothing.
 use mathlib.Core.Path.{_≡_, refl}
 use mathlib.Core.Logic.{⊎-elim}
 use Prim.Native.Nat.{_-_, _≤_}
@@ -7,9 +7,9 @@ use lib.Dec.{eqb}
 use lib.ListN.{getD}
 use Rattle.statement.specs.Lists.{tally}
 use Rattle.laws.proofs.Tally.{count-to}
-use Rattle.checks.proofs.Named.{named-hit, named-miss}
-use Rattle.checks.proofs.count.Statement.{statement}
-use Rattle.checks.proofs.count.Tie as tie
+use Rattle.factor_lists.proofs.Named.{named-hit, named-miss}
+use Rattle.factor_lists.proofs.count.Statement.{statement}
+use Rattle.factor_lists.proofs.count.Tie as tie
 
 abbrev Inv-loop : tie.InvT-loop
 Inv-loop p v n t₀ k₀ t k = (k ≤ n) × (t ≡ tally (λ a. eqb (getD p a 0) v) k)

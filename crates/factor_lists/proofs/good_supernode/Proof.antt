@@ -1,10 +1,10 @@
--- `checks::good_supernode` meets its contract, test by test. Assumes nothing.
+-- `factor_lists::good_supernode` meets its contract, test by test. Assumes nothing.
 use mathlib.Core.Path.{sym, _∙_}
 use native.Mathlib.Omega.{arith}
 use borrow.Author.Tests.{le-leb, lt-leb, not-true, not-false}
-use Rattle.checks.proofs.Parts.{good-is}
-use Rattle.checks.proofs.good_supernode.Statement.{statement}
-use Rattle.checks.proofs.good_supernode.Tie as tie
+use Rattle.factor_lists.proofs.Parts.{good-is}
+use Rattle.factor_lists.proofs.good_supernode.Statement.{statement}
+use Rattle.factor_lists.proofs.good_supernode.Tie as tie
 
 all-rising-requires : tie.Need-all-rising-requires
 all-rising-requires c κs = omega arith

@@ -1,11 +1,11 @@
--- `checks::full_record` meets its contract: (a), test by test. Assumes nothing.
+-- `factor_lists::full_record` meets its contract: (a), test by test. Assumes nothing.
 use native.Mathlib.Omega.{arith}
 use borrow.Author.Tests.{le-leb, lt-leb}
 use Rattle.statement.specs.Solve.{fullRecord}
-use Rattle.checks.proofs.Parts.{le-more, lt-more}
+use Rattle.factor_lists.proofs.Parts.{le-more, lt-more}
 use Rattle.laws.proofs.Taken.{no, yes}
-use Rattle.checks.proofs.full_record.Statement.{statement}
-use Rattle.checks.proofs.full_record.Tie as tie
+use Rattle.factor_lists.proofs.full_record.Statement.{statement}
+use Rattle.factor_lists.proofs.full_record.Tie as tie
 
 is-full-requires : tie.Need-is-full-requires
 is-full-requires c κs = omega arith

@@ -1,4 +1,4 @@
--- `checks::permutes_slowly` meets its contract: each number passed is named once. Assumes nothing.
+-- `factor_lists::permutes_slowly` meets its contract: each number passed is named once. Assumes nothing.
 use mathlib.Core.Path.{sym, _∙_}
 use Prim.Native.Nat.{_-_}
 use native.Mathlib.Omega.{arith}
@@ -8,8 +8,8 @@ use borrow.Author.Tests.{eq-eqb, ne-eqb}
 use Rattle.statement.specs.Lists.{tally}
 use Rattle.statement.specs.Solve.{permutes}
 use Rattle.laws.proofs.Every.{Tested, tested-start, tested-more, tested-stop, tested-over}
-use Rattle.checks.proofs.permutes_slowly.Statement.{statement}
-use Rattle.checks.proofs.permutes_slowly.Tie as tie
+use Rattle.factor_lists.proofs.permutes_slowly.Statement.{statement}
+use Rattle.factor_lists.proofs.permutes_slowly.Tie as tie
 
 abbrev Inv-loop : tie.InvT-loop
 Inv-loop n p v₀ v = Tested (λ k. eqb (tally (λ a. eqb (getD p a 0) k) n) 1) n v

@@ -1,4 +1,4 @@
--- `checks::all_rising` meets its contract: those passed rise. Assumes nothing.
+-- `factor_lists::all_rising` meets its contract: those passed rise. Assumes nothing.
 use Prim.Native.Nat.{suc, _-_}
 use native.Mathlib.Numerals.{add-one}
 use native.Mathlib.Omega.{arith}
@@ -6,8 +6,8 @@ use lib.Dec.{ltb}
 use lib.ListN.{length, getD}
 use borrow.Author.Tests.{lt-ltb, le-ltb}
 use Rattle.laws.proofs.Every.{Tested, tested-start, tested-more, tested-stop, tested-over}
-use Rattle.checks.proofs.all_rising.Statement.{statement}
-use Rattle.checks.proofs.all_rising.Tie as tie
+use Rattle.factor_lists.proofs.all_rising.Statement.{statement}
+use Rattle.factor_lists.proofs.all_rising.Tie as tie
 
 abbrev Inv-loop : tie.InvT-loop
 Inv-loop l i₀ i = Tested (λ x. ltb (getD l x 0) (getD l (suc x) 0)) (length l - 1) i

@@ -1,13 +1,13 @@
--- `checks::permutes` meets its contract: counted slowly, or in the words. Assumes nothing.
+-- `factor_lists::permutes` meets its contract: counted slowly, or in the words. Assumes nothing.
 use mathlib.Core.Path.{sym, _∙_}
 use native.Mathlib.Omega.{arith}
 use lib.ListN.{length}
 use lib.Seq.{length-take-le}
 use borrow.Author.Needs.{needs}
-use Rattle.checks.proofs.Parts.{names-past, counted, zeros-again, low-of}
+use Rattle.factor_lists.proofs.Parts.{names-past, counted, zeros-again, low-of}
 use Rattle.laws.proofs.Taken.{no, yes}
-use Rattle.checks.proofs.permutes.Statement.{statement}
-use Rattle.checks.proofs.permutes.Tie as tie
+use Rattle.factor_lists.proofs.permutes.Statement.{statement}
+use Rattle.factor_lists.proofs.permutes.Tie as tie
 
 permutes-slowly-requires : tie.Need-permutes-slowly-requires
 permutes-slowly-requires c κs = omega arith
