@@ -1,0 +1,3 @@
+pub mod Analyse
+pub mod Solve
+pub mod Column

@@ -1,0 +1,4 @@
+pub mod Contract
+pub mod Analyse
+pub mod Solve
+pub mod Column
