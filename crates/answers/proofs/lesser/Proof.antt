@@ -1,6 +1,6 @@
 -- `answers::lesser` meets its contract. Assumes nothing.
 use mathlib.Core.Path.{_≡_}
-use Prim.Native.Nat.{ℕ, min}
+use Prim.Native.Nat.{min}
 use native.Mathlib.Omega.{arith}
 use Rattle.statement.specs.declared.Factored.{Factored}
 use Rattle.answers.proofs.lesser.Statement.{statement}
