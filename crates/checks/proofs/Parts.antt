@@ -4,61 +4,25 @@ use mathlib.Core.Bool.{Bool, true, false, _&&_}
 use mathlib.Core.List.{List, []}
 use Prim.Native.Nat.{ℕ, zero, suc, _+_, _-_, _*_, _≤_, _<_}
 use native.Mathlib.Omega.{arith}
-use lib.Dec.{T, eqb, leb, ltb, ltb→lt}
-use lib.ListN.{length, getD, take, replicate, length-replicate}
-use lib.Seq.{length-take-le, getD-take}
-use borrow.Author.Tests.{lt-ltb}
-use Rattle.statement.specs.Lists.{every, tally}
-use Rattle.statement.specs.Shape.{Shape, first, width, rowsOf, trapezoid}
-use Rattle.statement.specs.Solve.{FactorAreas, shapeIn, fullRecord, permutes, goodSupernode, risingColumns, risingRows, sized, viewable}
+use lib.Dec.{not-T}
+use lib.ListN.{take}
+use Rattle.statement.specs.Lists.{every}
+use Rattle.statement.specs.Shape.{Shape, trapezoid}
+use Rattle.statement.specs.Solve.{FactorAreas, shapeIn, fullRecord, goodSupernode, risingColumns, risingRows, sized, viewable}
 use Rattle.statement.specs.declared.Record.{Record}
 use Rattle.laws.specs.Lent.{laid, Fitted, Walkable}
-use Rattle.laws.proofs.Bools.{and-both}
-use Rattle.laws.proofs.Every.{every-ext, every-all, every-at}
-use Rattle.laws.proofs.Order.{never}
+use Rattle.laws.proofs.Bools.{and-both, T-false}
 use Rattle.laws.proofs.Taken.{true-T}
-use Rattle.laws.proofs.Permuted.{permuted}
 use Rattle.laws.proofs.Checked.{cut, columns-few, Roomy, roomy, fitted, risingStarts, rows-parts, walkable}
-
-pub not-so : (b : Bool) → (T b → ⊥) → b ≡ false
-not-so true h = absurd (h tt)
-not-so false h = refl
-
--- a number that is not below n is named: (b) fails
-pub names-past : (n : ℕ) (q : List ℕ) → n ≤ length q → every (λ x. ltb (getD (take n q) x 0) n) (length (take n q)) ≡ false → permutes n q ≡ false
-names-past n q h e = not-so (permutes n q) (λ t. let p = permuted n q h t in never (every-all (λ x. ltb (getD (take n q) x 0) n) (length (take n q)) (λ x k. rw (getD-take n q x 0 (len x k)) (lt-ltb (getD q x 0) n (p .low x (len x k))))) e)
-  where
-    len : (x : ℕ) → x < length (take n q) → x < n
-    len x k = omega (arith, length-take-le n q h)
-
--- counted in the words
-pub counted : (n : ℕ) (q l : List ℕ) → ((v : ℕ) → v < n → getD l v 0 ≡ tally (λ a. eqb (getD q a 0) v) n) → every (λ v. eqb (getD l v 0) 1) n ≡ permutes n q
-unfolding permutes
-counted n q l h = every-ext (λ v. eqb (getD l v 0) 1) (λ v. eqb (tally (λ a. eqb (getD q a 0) v) n) 1) n (λ v k. ap (λ (t : ℕ). eqb t 1) (h v k))
 
 -- more supernodes than columns: (c) fails
 pub too-many : (R : Record) (S : Shape) → R .n < R .supernodes → risingColumns R S ≡ false
-too-many R S h = not-so (risingColumns R S) (λ t. omega (arith, columns-few R S t))
-
--- one supernode's test by its rows, columns and bound
-pub good-is : {rows : List ℕ} {f w n : ℕ} (S : Shape) (K : ℕ) → rows ≡ rowsOf S K → f ≡ first S K → w ≡ width S K → n ≡ S .n
-    → goodSupernode S K ≡ every (λ x. ltb (getD rows x 0) (getD rows (suc x) 0)) (length rows - 1) && (leb w (length rows) && (every (λ c. eqb (getD rows c 0) (f + c)) w && every (λ x. ltb (getD rows x 0) n) (length rows)))
-unfolding goodSupernode
-good-is S K e p q r = rw (e, p, q, r)
+too-many R S h = T-false (risingColumns R S) (not-T (risingColumns R S) (λ t. omega (arith, columns-few R S t)))
 
 pub trapezoid-bound : (m w : ℕ) → m ≤ 32768 → trapezoid m w ≤ 32768 * w
 unfolding trapezoid
 trapezoid-bound m zero h = omega arith
 trapezoid-bound m (suc w) h = omega (arith, trapezoid-bound m w h)
-
-pub zeros-again : {w : List ℕ} (m : ℕ) → w ≡ replicate m 0 → w ≡ replicate (length w) 0
-zeros-again m e = e ∙ ap (λ (n : ℕ). replicate n 0) (sym (ap length e ∙ length-replicate m 0))
-
-pub low-of : (n : ℕ) (q : List ℕ) → n ≤ length q → every (λ x. ltb (getD (take n q) x 0) n) (length (take n q)) ≡ true → (i : ℕ) → i < n → getD q i 0 < n
-low-of n q h e i l =
-    let k : i < length (take n q) = omega (arith, length-take-le n q h) in
-    let t : getD (take n q) i 0 < n = ltb→lt (getD (take n q) i 0) n (every-at (λ x. ltb (getD (take n q) x 0) n) (length (take n q)) (true-T e) i k) in
-    rw (getD-take n q i 0 l) at t
 
 -- (c) reads the first columns alone
 pub columns-same : (R : Record) (firsts starts rows : List ℕ) → risingColumns R (laid (R .n) firsts [] []) ≡ risingColumns R (laid (R .n) firsts starts rows)
@@ -92,9 +56,3 @@ module _ (R : Record) (f : FactorAreas) where
     pub view-rest : viewable R f ≡ risingColumns R part && (risingRows R part && sized R part)
     unfolding viewable
     view-rest = rw (h, cut R f)
-
-pub le-more : {a b : ℕ} → a ≤ b → a < b + 1
-le-more h = omega arith
-
-pub lt-more : {a b : ℕ} → a < b → a + 1 ≤ b
-lt-more h = omega arith

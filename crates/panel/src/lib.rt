@@ -3,6 +3,7 @@
 ghost use mathlib.Core.Path.{_≡_};
 ghost use Prim.Native.Nat.{_≤_, _<_};
 ghost use Rattle.statement.specs.Shape.{trapezoid};
+ghost use Rattle.statement.specs.Rules.{panel};
 ghost use Rattle.panel.specs.View.{columnOf, cell, Within};
 
 // Where column c of an m-row trapezoid starts.
@@ -14,6 +15,13 @@ pub fn column_start(m: usize, c: usize) -> usize
         return 0;
     }
     c * m - c * (c - 1) / 2
+}
+
+// The first column of the panel of 64 that column c stands in: what is before it is one sum, what follows it is subtracted singly.
+pub fn panel_start(c: usize) -> usize
+    ensures { λ r. ⌜ r ≡ panel c ⌝ }
+{
+    c / 64 * 64
 }
 
 // Column c, diagonal first.

@@ -84,12 +84,12 @@ module _ (old : List Float) (m c : ℕ) where
   pub before-none : c < 64 → Before old
   before-none h = record { size = refl; inside = λ i p. rw (lt-ltb c 64 h); outside = λ p q. refl }
 
-  pub before-sum : (w work : List Float) (at : ℕ) → 64 ≤ c → at ≡ trapezoid m c → ((i : ℕ) → i < m - c → getD work i nan ≡ dot (cell m old (c + i)) (cell m old c) (panel c)) →
+  pub before-sum : (w work : List Float) (at c0 : ℕ) → c0 ≡ panel c → 64 ≤ c → at ≡ trapezoid m c → ((i : ℕ) → i < m - c → getD work i nan ≡ dot (cell m old (c + i)) (cell m old c) c0) →
       Touched nan old w (m - c) (λ i. at + i) (λ i. sub binary64 (getD old (at + i) nan) (getD work i nan)) → Before w
-  before-sum w work at h e s t =
+  before-sum w work at c0 e₀ h e s t =
       touch.recast nan old w (m - c) (λ i. trapezoid m c + i) _ _
       (subst (λ a. Touched nan old w (m - c) (λ i. a + i) (λ i. sub binary64 (getD old (a + i) nan) (getD work i nan))) e t)
-      (λ i p. ap (sub binary64 (getD old (trapezoid m c + i) nan)) (s i p) ∙ rw (le-ltb c 64 h))
+      (λ i p. ap (sub binary64 (getD old (trapezoid m c + i) nan)) (s i p ∙ ap (dot (cell m old (c + i)) (cell m old c)) e₀) ∙ rw (le-ltb c 64 h))
 
 -- columns before c are read alike before and after a change of column c
 pub cells-kept : (old w : List Float) (m c : ℕ) (f : ℕ → Float) → Touched nan old w (m - c) (λ i. trapezoid m c + i) f → (p k : ℕ) → k < c → k ≤ p → p < m → cell m w p k ≡ cell m old p k
@@ -101,11 +101,14 @@ module _ (old : List Float) (m c : ℕ) where
   abbrev pub Reduced : List Float → Type 0
   Reduced w = Touched nan old w (m - c) (λ i. trapezoid m c + i) (λ i. inner m old (c + i) c (getD old (trapezoid m c + i) nan))
 
-  pub reduced : (w w′ : List Float) → Before old m c w →
-      Touched nan w w′ (m - c) (λ i. trapezoid m c + i) (λ i. singly (getD w (trapezoid m c + i) nan) (cell m w (c + i)) (cell m w c) (panel c) (c - panel c)) → Reduced w′
+  abbrev pub Singled-from : List Float → List Float → ℕ → Type 0
+  Singled-from w w′ c0 =
+      Touched nan w w′ (m - c) (λ i. trapezoid m c + i) (λ i. singly (getD w (trapezoid m c + i) nan) (cell m w (c + i)) (cell m w c) c0 (c - c0))
+
+  pub reduced : (w w′ : List Float) (c0 : ℕ) → c0 ≡ panel c → Before old m c w → Singled-from w w′ c0 → Reduced w′
   unfolding inner
-  reduced w w′ t u =
-      touch.again nan old w (m - c) (λ i. trapezoid m c + i) _ _ w′ _ t u
+  reduced w w′ c0 e t u =
+      touch.again nan old w (m - c) (λ i. trapezoid m c + i) _ _ w′ _ t (subst (Singled-from w w′) e u)
       (λ i p.
       ap (λ z. singly z (cell m w (c + i)) (cell m w c) (panel c) (c - panel c)) (t .inside i p) ∙
       singly-same _ (cell m w (c + i)) (cell m w c) (cell m old (c + i)) (cell m old c) (panel c) (c - panel c)

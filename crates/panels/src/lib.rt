@@ -15,6 +15,7 @@ ghost use Rattle.panels.specs.Dense.{inner, Column, Dense};
 use panel::column_start;
 use panel::panel_column;
 use panel::panel_entry;
+use panel::panel_start;
 
 // The first n places are 0.0.
 pub fn clear(w: &mut [f64], n: usize)
@@ -108,15 +109,15 @@ fn singles(own: &mut [f64], m: usize, c0: usize, c: usize)
     }
 }
 
-// From column c, the sum over the columns before its panel, if there are any.
-fn before_panel(own: &mut [f64], work: &mut [f64], m: usize, c: usize)
-    requires { ⌜ (c < m) × (m ≤ 32768) × (trapezoid m c + (m - c) ≤ length (now own)) × (m ≤ length (now work)) ⌝ }
+// From column c, the sum over the c0 columns before its panel, if there are any.
+fn before_panel(own: &mut [f64], work: &mut [f64], m: usize, c0: usize, c: usize)
+    requires { ⌜ (c0 ≡ panel c) × (c < m) × (m ≤ 32768) × (trapezoid m c + (m - c) ≤ length (now own)) × (m ≤ length (now work)) ⌝ }
     ensures { λ r. ⌜ Touched nan (now (own .entry)) (now (own .exit)) (m - c) (λ i. trapezoid m c + i) (λ i. cond (ltb c 64) (getD (now (own .entry)) (trapezoid m c + i) nan) (sub binary64 (getD (now (own .entry)) (trapezoid m c + i) nan) (dot (cell m (now (own .entry)) (c + i)) (cell m (now (own .entry)) c) (panel c)))) ⌝ }
 {
-    if c < 64 {
+    if c0 == 0 {
         return;
     }
-    sums(work, own, m, c, c / 64 * 64);
+    sums(work, own, m, c, c0);
     let at = column_start(m, c);
     subtract_run(own, at, work, m - c);
 }
@@ -126,8 +127,9 @@ fn reduce(own: &mut [f64], work: &mut [f64], m: usize, c: usize)
     requires { ⌜ (c < m) × (m ≤ 32768) × (trapezoid m c + (m - c) ≤ length (now own)) × (m ≤ length (now work)) ⌝ }
     ensures { λ r. ⌜ Touched nan (now (own .entry)) (now (own .exit)) (m - c) (λ i. trapezoid m c + i) (λ i. inner m (now (own .entry)) (c + i) c (getD (now (own .entry)) (trapezoid m c + i) nan)) ⌝ }
 {
-    before_panel(own, work, m, c);
-    singles(own, m, c / 64 * 64, c);
+    let c0 = panel_start(c);
+    before_panel(own, work, m, c0, c);
+    singles(own, m, c0, c);
 }
 
 // Column c of a trapezoid: reduced, tested, and divided by the root of its pivot.

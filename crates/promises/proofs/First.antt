@@ -1,12 +1,11 @@
 -- Demand 1: each kind of answer has its own number, number and details are the answer, and what a refusal leaves. Assumes nothing.
 use mathlib.Core.Path.{_≡_, refl, sym, ap, ap₂, _∙_, subst₂}
-use mathlib.Core.Logic.{_↔_}
 use mathlib.Core.List.{List}
 use Prim.Native.Nat.{ℕ, zero, suc}
 use lib.ListN.{getD}
 use Rattle.statement.specs.Answers.{number, details}
 use Rattle.statement.specs.declared.Answer.{Answer}
-use Rattle.laws.proofs.Exactly.{analyse-refused, factor-refused, solve-refused}
+use Rattle.laws.proofs.Exactly.{analyse-refused, factor-refused, solve-refused, zero-accepted}
 use Rattle.statement.specs.declared.Answer.the-variants.{Accepted, OverLimit, WrongLengths, WrongStarts, WrongColumn, ShortArea, OverCap, WrongOrder, WrongPivot, WrongSide, NoFactor, WrongStructure, WrongFrame}
 use Rattle.promises.specs.First.{Alike, accepted, overLimit, wrongLengths, wrongStarts, wrongColumn, shortArea, overCap, wrongOrder, wrongPivot, wrongSide, noFactor, wrongStructure, wrongFrame, Demand1}
 
@@ -77,10 +76,6 @@ same-number (wrongSide x y) = refl
 same-number noFactor = refl
 same-number wrongStructure = refl
 same-number (wrongFrame x y) = refl
-
--- only an accepted call answers 0
-zero-accepted : (a : Answer) → number a ≡ 0 → a ≡ Accepted
-zero-accepted a e = sym (back-is a) ∙ ap (λ n. back n (details a)) e
 
 -- demand 1
 pub demand-one : Demand1

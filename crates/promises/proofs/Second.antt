@@ -1,14 +1,13 @@
 -- Demand 2, of the calls. Assumes nothing.
-use mathlib.Core.Path.{_≡_, refl, sym, ap, ap₂, _∙_}
+use mathlib.Core.Path.{_≡_, refl, sym, ap, _∙_}
 use mathlib.Core.Logic.{_⊎_, inl, inr, ⊎-elim, _≢_}
 use mathlib.Core.Bool.{Bool, true, false, cond, _&&_}
-use mathlib.Core.List.{List, [], _∷_, _++_}
+use mathlib.Core.List.{List, [], _∷_}
 use mathlib.Core.Option.{Option, none, some}
-use Prim.Native.Nat.{ℕ, suc, _+_, _-_, _≤_, _<_}
+use Prim.Native.Nat.{ℕ, _+_, _≤_, _<_}
 use native.Mathlib.Omega.{arith}
 use lib.Dec.{T, ltb}
-use lib.ListN.{length, take, replicate}
-use lib.Seq.{take-append-seam}
+use lib.ListN.{length, replicate}
 use borrow.Author.Tests.{eq-eqb, lt-ltb, le-ltb}
 use lib.Ieee.{Float, ofBits, round, span, climb, odd, units}
 use lib.Ieee as ieee
@@ -16,15 +15,13 @@ use lib.Count.{trailingZeros}
 use Rattle.statement.specs.Input.{Matrix, WellFormed, rowsLength, pattern, +0}
 use Rattle.statement.specs.Fill.{entries}
 use Rattle.statement.specs.Postorder.{permutation}
-use Rattle.statement.specs.Lists.{joined}
-use Rattle.statement.specs.Shape.{Shape, supernodes, first, width, stretch}
-use Rattle.statement.specs.Supernodes.{shapeOf}
+use Rattle.statement.specs.Shape.{Shape, supernodes, first, stretch}
 use Rattle.statement.specs.Rules.{tolerance, entry}
 use Rattle.statement.specs.Answers.{number, test, orElse}
-use Rattle.statement.specs.Areas.{Areas, Need, needs, short, held}
-use Rattle.statement.specs.Calls.{inputFault, analysis, entryA, settled, later, recordOf, areasOf, structureRoom, analyseFault, analyse, Analyses, Settled, factorNeeds, factorLater, orderOf, stopOf, Factors, factor}
+use Rattle.statement.specs.Areas.{Need, needs, short, held}
+use Rattle.statement.specs.Calls.{inputFault, analysis, settled, later, recordOf, areasOf, structureRoom, analyseFault, analyse, Settled, factorNeeds, factorLater, orderOf, Factors}
 use Rattle.statement.specs.Solve.{FactorAreas, factoredIn, shapeIn, permutes, viewable, solvable, valuesIn, solveFault, settledSolve, solution, solve, view}
-use Rattle.statement.specs.Demands.{Numbers, Such, Names, Obeys}
+use Rattle.statement.specs.Demands.{Such, Names, Obeys}
 use Rattle.statement.specs.declared.Answer.the-variants.{Accepted, ShortArea}
 use Rattle.statement.specs.declared.Original.{Original}
 use Rattle.statement.specs.declared.Order.{Order}
@@ -39,19 +36,17 @@ use Rattle.laws.proofs.Analysed as analysed
 use Rattle.laws.proofs.Faults.{entries-fit}
 use Rattle.laws.proofs.Finite.{fits-entry}
 use Rattle.laws.proofs.RootFinite.{pivot-positive}
-use Rattle.laws.proofs.RootNearest.{rootOf-is}
-use Rattle.laws.proofs.Ranks.{list-length}
-use Rattle.laws.proofs.Shapes.{rows, firsts-length}
-use Rattle.laws.proofs.Shapes as shapes
+use Rattle.laws.proofs.RootNearest.{root-nearest}
 use Rattle.laws.proofs.Bools.{and-both, T-true}
 use Rattle.laws.proofs.Given.{factor-given}
-use Rattle.laws.proofs.Solvable.{accepted-solvable}
+use Rattle.laws.proofs.Solvable.{bare, accepted-solvable}
+use Rattle.laws.proofs.Solvable as solvable
 use Rattle.laws.proofs.Stages.{short-passed}
 use Rattle.laws.specs.Given.{Ordered}
-use Rattle.promises.specs.Third.{X, S, N, A, Whole, Completed, Refused}
-use Rattle.promises.specs.Second.{Rooted, Success, Structure, nearestTolerance, Demand2, DemandTwo, OnSuccess}
+use Rattle.promises.specs.Third.{X, S, A, Whole, Completed, Refused}
+use Rattle.promises.specs.Second.{Rooted, Success, Structure, nearestTolerance, DemandTwo, OnSuccess}
 use Rattle.promises.proofs.Places.{places}
-use Rattle.promises.proofs.Solution.{bare, values-same, solution-is}
+use Rattle.promises.proofs.Solution.{values-same, solution-is}
 use Rattle.promises.proofs.Third.{third-kept}
 use Rattle.promises.proofs.Structure.{filled, parents, postordered, supernodal}
 
@@ -137,7 +132,7 @@ module _ (M : Matrix) (cap : ℕ) (r : Room) (such : Such M cap r) where
   rooted : (v : List Float) (K c : ℕ) → Obeys (S M) (A M) v K c → Rooted M v K c
   rooted v K c h = record {
     passed = h .pivot;
-    diagonal = rw (h .diagonal) (rootOf-is d (fits-entry (S M) (A M) (entries-fit M (such .numbers) (X M .permutation)) v (stretch (S M) v K) K j c) (pivot-positive (A M j j) d (h .pivot)));
+    diagonal = rw (h .diagonal) (root-nearest d (fits-entry (S M) (A M) (entries-fit M (such .numbers) (X M .permutation)) v (stretch (S M) v K) K j c) (pivot-positive (A M j j) d (h .pivot)));
     below = λ i m k. rw (h .diagonal) (h .below i m k);
   }
     where
@@ -149,11 +144,7 @@ module _ (M : Matrix) (cap : ℕ) (r : Room) (such : Such M cap r) where
 
 -- ---- solving
 
-held-take : {A : Type 0} (m k : ℕ) (z : A) (part : List A) → k ≡ length part → take k (held m z part) ≡ part
-unfolding held
-held-take m k z part e = ap (λ x. take x (part ++ replicate (m - length part) z)) e ∙ take-append-seam part _
-
-module _ (M : Matrix) (w : WellFormed M) (r : Room) (v : List Float) where
+module _ (M : Matrix) (cap : ℕ) (r : Room) (such : Such M cap r) (v : List Float) (filled : length v ≡ entries (pattern M) (M .n)) where
   abbrev Sh : Shape
   Sh = shape (pattern M) (M .n)
 
@@ -163,27 +154,12 @@ module _ (M : Matrix) (w : WellFormed M) (r : Room) (v : List Float) where
   abbrev f : FactorAreas
   f = factoredIn (areasOf r (analysis M) v)
 
-  shape-firsts : suc (supernodes Sh) ≡ length (Sh .firsts)
-  unfolding shapeOf
-  shape-firsts = sym (firsts-length (factored (pattern M) (M .n)) (M .n) (analysed.up M w))
-
-  shape-starts : suc (supernodes Sh) ≡ length (Sh .starts)
-  unfolding shapeOf
-  shape-starts = sym (list-length (λ K. length (joined (rows (factored (pattern M) (M .n)) (M .n) (analysed.up M w)) K)) (suc (shapes.N (factored (pattern M) (M .n)) (M .n) (analysed.up M w))))
-
   back : shapeIn R f ≡ bare Sh
-  unfolding shapeIn recordOf areasOf factoredIn analysis
-  back = λ i. record {
-    n = sym (analysed.shape-n M) i;
-    firsts = held-take (r .firsts) (suc (supernodes Sh)) 0 (Sh .firsts) shape-firsts i;
-    starts = held-take (r .starts) (suc (supernodes Sh)) 0 (Sh .starts) shape-starts i;
-    rows = held-take (r .rows) (length (Sh .rows)) 0 (Sh .rows) refl i;
-    parents = [];
-  }
+  back = unfold solvable.R solvable.f in solvable.back M cap r such v filled
 
-  solution-back : (b : List Float) → length v ≡ entries (pattern M) (M .n) → solution (R .n) (f .permutation) (shapeIn R f) (f .values) b ≡ solution (M .n) (X M .permutation) (S M) v b
+  solution-back : (b : List Float) → solution (R .n) (f .permutation) (shapeIn R f) (f .values) b ≡ solution (M .n) (X M .permutation) (S M) v b
   unfolding analysis recordOf areasOf factoredIn
-  solution-back b e = ap (λ z. solution (M .n) (held (r .permutation) 0 (permutation (pattern M) (M .n))) z (held (r .values) +0 v) b) back ∙ solution-is M w (r .permutation) (r .values) v b e
+  solution-back b = ap (λ z. solution (M .n) (held (r .permutation) 0 (permutation (pattern M) (M .n))) z (held (r .values) +0 v) b) back ∙ solution-is M (such .well) (r .permutation) (r .values) v b filled
 
   columns : R .n ≡ M .n
   unfolding recordOf
@@ -193,18 +169,18 @@ module _ (M : Matrix) (w : WellFormed M) (r : Room) (v : List Float) where
   unfolding solveFault test
   accepts b words floats s e h k = rw (s, columns, eq-eqb (length b) (M .n) e, le-ltb words (M .n) h, le-ltb floats (M .n) k)
 
-  solved-by : (b : List Float) (words floats : ℕ) → solvable R f ≡ true → length v ≡ entries (pattern M) (M .n) → length b ≡ M .n → M .n ≤ words → M .n ≤ floats
+  solved-by : (b : List Float) (words floats : ℕ) → solvable R f ≡ true → length b ≡ M .n → M .n ≤ words → M .n ≤ floats
       → solve R f b words floats ≡ record { answer = Accepted; b = solution (M .n) (X M .permutation) (S M) v b; words = replicate words 0; floats = replicate floats +0 }
   unfolding solve settledSolve
-  solved-by b words floats s c e h k = rw (accepts b words floats s e h k, solution-back b c)
+  solved-by b words floats s e h k = rw (accepts b words floats s e h k, solution-back b)
 
   -- the view of a column below n
-  viewed-by : (q : Factored) → viewable R f ≡ true → length v ≡ entries (pattern M) (M .n) → q .0 < M .n → view R f q ≡ valuesIn (S M) v (q .0)
+  viewed-by : (q : Factored) → viewable R f ≡ true → q .0 < M .n → view R f q ≡ valuesIn (S M) v (q .0)
   unfolding view
-  viewed-by q s c h = rw (s, lt-ltb (q .0) (R .n) (rw columns h)) (ap (λ z. valuesIn z (f .values) (q .0)) back ∙ part)
+  viewed-by q s h = rw (s, lt-ltb (q .0) (R .n) (rw columns h)) (ap (λ z. valuesIn z (f .values) (q .0)) back ∙ part)
     where
       part : valuesIn (bare Sh) (f .values) (q .0) ≡ valuesIn (S M) v (q .0)
-      part = unfold analysis areasOf factoredIn in values-same M w (r .values) v c (q .0) h
+      part = unfold analysis areasOf factoredIn in values-same M (such .well) (r .values) v filled (q .0) h
 
 module _ (M : Matrix) (cap : ℕ) (r : Room) (such : Such M cap r) where
   -- an accepted factor that stops at the end
@@ -213,8 +189,8 @@ module _ (M : Matrix) (cap : ℕ) (r : Room) (such : Such M cap r) where
     v = v;
     completed = c;
     rooted = λ K d h k. rooted M cap r such v K d (c .rules K d h k);
-    solves = λ b words floats y q h k u. u ∙ rw (c .summary, c .areas) (solved-by M (such .well) r v b words floats can (c .filled) q h k);
-    views = λ q y h u. u ∙ rw (c .summary, c .areas) (viewed-by M (such .well) r v q seen (c .filled) h);
+    solves = λ b words floats y q h k u. u ∙ rw (c .summary, c .areas) (solved-by M cap r such v (c .filled) b words floats can q h k);
+    views = λ q y h u. u ∙ rw (c .summary, c .areas) (viewed-by M cap r such v (c .filled) q seen h);
   }
     where
       can : solvable (recordOf Full M (analysis M)) (factoredIn (areasOf r (analysis M) v)) ≡ true

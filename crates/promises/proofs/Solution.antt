@@ -5,18 +5,18 @@ use mathlib.Core.List.{List, [], _∷_, _++_}
 use Prim.Native.Nat.{ℕ, zero, suc, _+_, _-_, _≤_, _<_}
 use native.Mathlib.Omega.{arith}
 use native.Mathlib.Nat.{le-refl}
-use lib.Dec.{T, eqb}
-use lib.ListN.{length, getD, set, take, drop, replicate, length-drop, List·getD-append}
+use lib.Dec.{eqb}
+use lib.ListN.{length, getD, take, drop, replicate, length-drop, List·getD-append}
 use lib.Seq.{take-append-le, drop-append-le}
-use lib.Ieee.{Float, binary64, div}
+use lib.Ieee.{Float}
 use Rattle.statement.specs.Lists.{has, place, list}
 use Rattle.statement.specs.Input.{Matrix, WellFormed, pattern, +0}
 use Rattle.statement.specs.Fill.{entries}
 use Rattle.statement.specs.Postorder.{permutation}
-use Rattle.statement.specs.Shape.{Shape, supernodes, first, width, height, rowsOf, trapezoid, size, offset}
+use Rattle.statement.specs.Shape.{Shape, supernodes, first, width, height, rowsOf, trapezoid, size}
 use Rattle.statement.specs.Supernodes.{owner}
 use Rattle.statement.specs.Areas.{held}
-use Rattle.statement.specs.Solve.{rowsIn, startIn, valuesIn, lessBelow, lessAbove, forwardAt, forward, backwardAt, backward, solution}
+use Rattle.statement.specs.Solve.{rowsIn, startIn, valuesIn, forwardAt, forward, backwardAt, backward, solution}
 use Rattle.laws.specs.Built.{Built}
 use Rattle.laws.specs.Numbered.{shape}
 use Rattle.laws.proofs.Analysed as analysed
@@ -25,6 +25,7 @@ use Rattle.laws.proofs.Entry.{trap-suc, trap-mono}
 use Rattle.laws.proofs.FactorTree.{numbering}
 use Rattle.laws.proofs.FactorTree as tree
 use Rattle.laws.proofs.Order.{has-same, has-more}
+use Rattle.laws.proofs.Solvable.{bare, offset-bare}
 use Rattle.laws.proofs.Stretches.{offset-mono, offset-suc}
 use Rattle.promises.proofs.Places as places
 
@@ -80,14 +81,6 @@ has-getD (x ∷ l) zero h = has-same x l
 has-getD (x ∷ l) (suc a) h = has-more (getD l a 0) x l (has-getD l a (omega arith))
 
 -- ---- of a matrix
-
-abbrev pub bare : Shape → Shape
-bare S = record { n = S .n; firsts = S .firsts; starts = S .starts; rows = S .rows; parents = [] }
-
-offset-bare : (S : Shape) (K : ℕ) → offset (bare S) K ≡ offset S K
-unfolding offset size rowsOf
-offset-bare S zero = refl
-offset-bare S (suc K) = ap (λ x. x + size S K) (offset-bare S K)
 
 rows-bare : (S : Shape) (c : ℕ) → rowsIn (bare S) c ≡ rowsIn S c
 unfolding rowsIn rowsOf

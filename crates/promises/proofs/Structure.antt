@@ -1,25 +1,21 @@
 -- Demand 2's structure: the least set, its tree, the postorder, the supernodes. Assumes nothing.
 use mathlib.Core.Path.{_≡_, sym, ap, _∙_, subst}
-use mathlib.Core.Logic.{_↔_, ⊎-elim}
+use mathlib.Core.Logic.{_↔_}
 use mathlib.Core.Bool.{Bool, true, false, not, _&&_}
 use mathlib.Core.List.{List}
-use Prim.Native.Nat.{ℕ, suc, _+_, _-_, _≤_, _<_}
+use Prim.Native.Nat.{ℕ, suc, _-_, _≤_, _<_}
 use native.Mathlib.Omega.{arith}
-use native.Mathlib.Nat.{le-refl, eq-or-lt-of-le}
 use native.Mathlib.Decide.{ℕ-discrete}
 use lib.Dec.{T, eqb, eqb→eq, T-not}
-use lib.ListN.{length, getD}
-use Rattle.statement.specs.Lists.{has, tally}
-use Rattle.statement.specs.Fill.{Fill, diag, entry, join, fill, parent, count, rowsOfColumn}
+use lib.ListN.{length}
+use Rattle.statement.specs.Lists.{tally}
+use Rattle.statement.specs.Fill.{Fill, diag, entry, join, fill, parent, count}
 use Rattle.statement.specs.Postorder.{original, permutation, forest}
-use Rattle.statement.specs.Shape.{supernodes, first, rowsOf, parentOf}
-use Rattle.statement.specs.Supernodes.{joins, begins, firstColumns, owner, shapeOf}
-use Rattle.laws.specs.Numbered.{factored, shape}
+use Rattle.statement.specs.Supernodes.{joins, begins, owner, shapeOf}
 use Rattle.statement.specs.Postorder.{Up}
-use Rattle.laws.proofs.Bools.{and-both, and-intro, T-true, T-false, T-dec, eqb-of, eqb-no}
+use Rattle.laws.proofs.Bools.{and-both, and-intro, T-true, T-false, eqb-of, eqb-no}
 use Rattle.laws.proofs.Fill.{fill-iff, fill→, →fill, parent-above, parent-to, parent-fill, parent-least}
 use Rattle.laws.proofs.FactorTree.{numbering}
-use Rattle.laws.proofs.FactorTree as tree
 use Rattle.laws.proofs.Postorder as post
 use Rattle.laws.proofs.Ranks.{has-select, select-has, select-sorted}
 use Rattle.laws.proofs.Select.{select-length}

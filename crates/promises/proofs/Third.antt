@@ -8,7 +8,7 @@ use Prim.Native.Nat.{ℕ, suc, _≤_, _<_}
 use native.Mathlib.Omega.{arith}
 use native.Mathlib.Nat.{le-refl}
 use native.Mathlib.Decide.{le-ind}
-use lib.Dec.{T, ltb}
+use lib.Dec.{ltb}
 use lib.ListN.{length, getD, take}
 use lib.Seq.{take-all}
 use borrow.Author.Tests.{lt-ltb, le-ltb}
@@ -17,13 +17,12 @@ use Rattle.statement.specs.Lists.{has}
 use Rattle.statement.specs.Input.{Matrix, pattern}
 use Rattle.statement.specs.Fill.{entries}
 use Rattle.statement.specs.Postorder.{permutation, toOriginal}
-use Rattle.statement.specs.Shape.{Shape, supernodes, offset, stretch, put, zeros}
+use Rattle.statement.specs.Shape.{Shape, supernodes, width, offset, stretch, put}
 use Rattle.statement.specs.Rules.{Out, made, broke, andThen, step}
-use Rattle.statement.specs.Run.{State, Fate, failed, start, fate, run, pass, plain, orderFault, firstBad}
+use Rattle.statement.specs.Run.{State, Fate, failed, start, fate, run, pass, plain, firstBad}
 use Rattle.statement.specs.Answers.{number, test, orElse}
-use Rattle.statement.specs.Record.{emptyRecord}
-use Rattle.statement.specs.Calls.{Analysis, analysis, entryA, Settled, settled, Factors, recordOf, areasOf, cleared, orderOf, stopOf, wrongPosition, stateAfter, factorFault, factor}
-use Rattle.statement.specs.Demands.{Such, Names, Breaks}
+use Rattle.statement.specs.Calls.{analysis, Settled, settled, recordOf, areasOf, orderOf, stopOf, wrongPosition, stateAfter, factorFault, factor}
+use Rattle.statement.specs.Demands.{Such, Names, Obeys, Breaks}
 use Rattle.statement.specs.declared.Factored.{Factored}
 use Rattle.statement.specs.declared.Original.{Original}
 use Rattle.statement.specs.declared.Answer.{Answer}
@@ -34,7 +33,7 @@ use Rattle.statement.specs.declared.Room.{Room}
 use Rattle.statement.specs.declared.Stage.the-variants.{Partial, Full}
 use Rattle.statement.specs.declared.Stop.{Stop}
 use Rattle.statement.specs.declared.Stop.the-variants.{End, After}
-use Rattle.laws.specs.Built.{Built, Sound}
+use Rattle.laws.specs.Built.{Sound}
 use Rattle.laws.specs.Numbered.{factored, shape}
 use Rattle.laws.proofs.Analysed as analysed
 use Rattle.laws.proofs.Bools.{lt-or-le}
@@ -43,10 +42,10 @@ use Rattle.laws.proofs.Fails.{breaks-step}
 use Rattle.laws.proofs.Faults.{no-fault}
 use Rattle.laws.proofs.Listed.{order-exactly}
 use Rattle.laws.proofs.Names.{names-good, in-order, plain-in-order, length-rising}
-use Rattle.laws.proofs.Order.{leastOf-le, named, never}
+use Rattle.laws.proofs.Order.{leastOf-le, named}
 use Rattle.laws.proofs.Sizes.{never-differs}
 use Rattle.laws.proofs.Skip.{stopped-done}
-use Rattle.promises.specs.Third.{X, S, N, A, Whole, Meets, Completed, Refused, Calm, Least, Stopped, Turns, Demand3, DemandThree}
+use Rattle.promises.specs.Third.{X, S, N, A, Meets, Completed, Refused, Calm, Least, Stopped, Turns, Demand3, DemandThree}
 use Rattle.promises.specs.Third as third
 use Rattle.promises.proofs.Places.{places}
 use Rattle.promises.proofs.Turning.{has-at, at-has}
@@ -124,6 +123,12 @@ module _ (M : Matrix) (cap : ℕ) (r : Room) (such : Such M cap r) (o : Order) (
       go (made v) h = inl (v, h)
       go (broke c) h = inr (toOriginal (X M .permutation) c, h)
 
+  ruled : (e : Stop) → stopOf (S M) e ≡ N M → (v : List Float) → length v ≡ entries (pattern M) n → ((K c : ℕ) → K < N M → c < width (S M) K → Obeys (S M) (A M) v K c) → Completed M r (call e) v
+  ruled e w v k h =
+      let p : pass (S M) (A M) (N M) ≡ made v = unfold analysis in ending.ruled M cap r such q (unfold analysis in m) v k (unfold analysis in h) in
+      let c : Either M r (call e) (made v) = rw p at (ended-as e w) in
+      c
+
   not-both : (a : Answer) (k : Original) → a ≡ Accepted → a ≡ WrongPivot k → ⊥
   not-both a k e f = omega (arith, ap number (sym e ∙ f))
 
@@ -199,7 +204,7 @@ module _ (M : Matrix) (cap : ℕ) (r : Room) (such : Such M cap r) (o : Order) (
     least : s .least .0 < n → Least M q t (s .least)
     least u =
         let z = turning.least (S M) (A M) ok q m t h (omega (arith, shape-n)) in
-        record { y = z .0; within = z .1; fails = z .2; lowest = lowest }
+        record { y = z .0; inside = z .1; fails = z .2; lowest = lowest }
       where
         lowest : (z : ℕ) (d : Factored) → z < t → turn z ≡ failed d → s .least .0 ≤ d .0
         lowest = turning.lowest (S M) (A M) ok q m t h
@@ -211,7 +216,7 @@ module _ (M : Matrix) (cap : ℕ) (r : Room) (such : Such M cap r) (o : Order) (
     lowest = turning.lowest (S M) (A M) ok q m t h
 
     calm-least : Calm M q t → n ≤ s .least .0
-    calm-least f = ⊎-elim (λ (u : s .least .0 < n). let z = least u in absurd (f (z .y) (s .least) (z .within) (z .fails))) (λ (u : n ≤ s .least .0). u) (lt-or-le (s .least .0) n)
+    calm-least f = ⊎-elim (λ (u : s .least .0 < n). let z = least u in absurd (f (z .y) (s .least) (z .inside) (z .fails))) (λ (u : n ≤ s .least .0). u) (lt-or-le (s .least .0) n)
 
     accepted-least : call (After t) .returned .answer ≡ Accepted → n ≤ s .least .0
     accepted-least a = ⊎-elim (λ (u : s .least .0 < n). absurd (not-both _ (name (s .least)) a (wild-refused u))) (λ (u : n ≤ s .least .0). u) (lt-or-le (s .least .0) n)
@@ -234,9 +239,9 @@ module _ (M : Matrix) (cap : ℕ) (r : Room) (such : Such M cap r) (o : Order) (
         from z =
             let c = z .0 in
             let y = z .1 in
-            let u : s .least .0 < n = omega (arith, lowest (y .y) c (y .within) (y .fails), below (y .y) c (y .within) (y .fails)) in
+            let u : s .least .0 < n = omega (arith, lowest (y .y) c (y .inside) (y .fails), below (y .y) c (y .inside) (y .fails)) in
             let x = least u in
-            let e : s .least .0 ≡ c .0 = omega (arith, lowest (y .y) c (y .within) (y .fails), y .lowest (x .y) (s .least) (x .within) (x .fails)) in
+            let e : s .least .0 ≡ c .0 = omega (arith, lowest (y .y) c (y .inside) (y .fails), y .lowest (x .y) (s .least) (x .inside) (x .fails)) in
             wild-refused u ∙ ap (λ d. WrongPivot (name (record { 0 = d }))) e ∙ ap WrongPivot (sym (z .2))
 
     named-in : (y : ℕ) → y < t → has (getD q y 0) (take t q) ≡ true
@@ -270,6 +275,7 @@ module _ (M : Matrix) (cap : ℕ) (r : Room) (such : Such M cap r) (o : Order) (
     either = λ e x w f. rw f (either e w);
     places = places M (such .well);
     accepts = λ e x w f. rw f (accepts e w);
+    exactly = λ e x w f v. rw f ((λ c. (c .filled, c .rules)), (λ h. ruled e w v (h .0) (h .1)));
     refuses = λ e x w f k. rw f (refuses e k w);
     calm = λ t x h f. rw f (calm t h);
     stops = λ t x h f c. rw f (stops t h c);

@@ -1,24 +1,23 @@
 -- What becomes of each supernode at its turn, along a list that names each once, children before parents. Assumes nothing.
 use mathlib.Core.Path.{_≡_, refl, sym, ap, _∙_}
-use mathlib.Core.Logic.{_↔_, _≢_, ⊎-elim}
+use mathlib.Core.Logic.{_↔_, ⊎-elim}
 use mathlib.Core.Bool.{Bool, true, false, _||_}
 use mathlib.Core.List.{List, [], _∷_}
 use mathlib.Core.Option.{none}
-use Prim.Native.Nat.{ℕ, zero, suc, _+_, _≤_, _<_}
+use Prim.Native.Nat.{ℕ, zero, suc, _≤_, _<_}
 use native.Mathlib.Omega.{arith}
 use lib.Dec.{eqb}
 use lib.ListN.{length, getD, take}
 use borrow.Author.Tests.{eqb-true}
 use lib.Ieee.{Float}
 use Rattle.statement.specs.Lists.{has}
-use Rattle.statement.specs.Shape.{Shape, supernodes, first, parentOf, stretch, zeros}
+use Rattle.statement.specs.Shape.{Shape, supernodes, stretch, zeros}
 use Rattle.statement.specs.Run.{State, start, Fate, done, failed, skipped, fate, run, firstBad}
 use Rattle.statement.specs.Demands.{Names, Breaks}
 use Rattle.statement.specs.Run.{Under, child, deeper}
 use Rattle.statement.specs.declared.Factored.{Factored}
 use Rattle.laws.specs.Built.{Sound}
-use Rattle.laws.specs.Given.{Before}
-use Rattle.laws.proofs.Bools.{le-or-lt, rises}
+use Rattle.laws.proofs.Bools.{le-or-lt}
 use Rattle.laws.proofs.Order.{has-same, has-more, never, bits, named, Inv, fate-same}
 use Rattle.laws.proofs.Demand.{inv, named-has, stopped-named, bound}
 use Rattle.laws.proofs.Fails.{fails-exactly}

@@ -2,7 +2,7 @@
 -- or stopped anywhere. Definitions only.
 use mathlib.Core.Path.{_≡_}
 use mathlib.Core.Logic.{_⊎_, _≢_, _↔_}
-use mathlib.Core.Bool.{true, false}
+use mathlib.Core.Bool.{true}
 use mathlib.Core.List.{List, []}
 use Prim.Native.Nat.{ℕ, _+_, _-_, _≤_, _<_}
 use lib.ListN.{length, getD, take}
@@ -119,7 +119,7 @@ module _ (M : Matrix) where
     -- c is the least failing column within the first t
     pub record Least (t : ℕ) (c : Factored) : Type 0 where
       pub y : ℕ
-      pub within : y < t
+      pub inside : y < t
       pub fails : turn y ≡ failed c
       pub lowest : (z : ℕ) (d : Factored) → z < t → turn z ≡ failed d → c .0 ≤ d .0
 
@@ -145,8 +145,10 @@ module _ (M : Matrix) (cap : ℕ) (r : Room) (o : Order) (l : List ℕ) where
     -- either the same bits, all finite, at exactly the places elimination fills, or a refusal
     pub either : (e : Stop) (x : Settled) → Whole M e → Factors M cap o l e r x → ((v : List Float) × Completed M r x v) ⊎ ((k : Original) × Refused M r x k)
     pub places : Places M
-    -- exactly when some pivot breaks the rule, and naming the column that the pass meets first
+    -- exactly when some pivot breaks the rule: else the values are the ones that meet the entry rules, and there are no others; the column
+    -- that is named is the one that the pass meets first
     pub accepts : (e : Stop) (x : Settled) → Whole M e → Factors M cap o l e r x → (x .returned .answer ≡ Accepted) ↔ ((k : Original) → Meets M k → ⊥)
+    pub exactly : (e : Stop) (x : Settled) → Whole M e → Factors M cap o l e r x → (v : List Float) → Completed M r x v ↔ ((length v ≡ entries (pattern M) (M .n)) × ((K c : ℕ) → K < N M → c < width (S M) K → Obeys (S M) (A M) v K c))
     pub refuses : (e : Stop) (x : Settled) → Whole M e → Factors M cap o l e r x → (k : Original) → (x .returned .answer ≡ WrongPivot k) ↔ Meets M k
     -- stopped after any number of steps with no failure so far: accepted, and what is then held
     pub calm : (t : ℕ) (x : Settled) → t ≤ N M → Factors M cap o l (After t) r x → (x .returned .answer ≡ Accepted) ↔ Calm M order t

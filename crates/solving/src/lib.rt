@@ -199,11 +199,11 @@ fn scatter(permutation: &[usize], x: &[f64], b: &mut [f64])
     requires { ⌜ permutes (length (now x)) (now permutation) ≡ true ⌝ }
     ensures { λ _. ⌜ now (b .exit) ≡ list (λ k. getD (now (x .entry)) (place k (now (permutation .entry))) +0) (length (now (x .entry))) ⌝ }
 {
-    let mut a: usize = 0;
-    while a < x.len() {
-        let k = permutation[a];
-        b[k] = x[a];
-        a += 1;
+    let mut q: usize = 0;
+    while q < x.len() {
+        let k = permutation[q];
+        b[k] = x[q];
+        q += 1;
     }
 }
 

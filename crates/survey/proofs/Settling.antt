@@ -13,10 +13,11 @@ use Rattle.statement.specs.Record.{emptyRecord}
 use Rattle.statement.specs.Areas.{Areas}
 use Rattle.statement.specs.Calls.{settled, cleared}
 use Rattle.statement.specs.declared.Answer.{Answer}
-use Rattle.statement.specs.declared.Answer.the-variants.{Accepted, OverLimit, WrongLengths, WrongStarts, WrongColumn, ShortArea, OverCap, WrongOrder, WrongPivot, WrongSide, NoFactor, WrongStructure, WrongFrame}
+use Rattle.statement.specs.declared.Answer.the-variants.{Accepted}
 use Rattle.statement.specs.declared.Outcome.{Outcome}
 use Rattle.statement.specs.declared.Record.{Record}
 use Rattle.statement.specs.declared.Room.{Room}
+use Rattle.laws.proofs.Exactly.{zero-accepted}
 use Rattle.survey.specs.Settles.{staleOf}
 
 -- what is returned with a
@@ -32,21 +33,6 @@ refused-areas r none R X h = absurd (h refl)
 refused-areas r (some a) R X h = refl
 
 -- ---- accepted or not
-
-zero-accepted : (a : Answer) → number a ≡ 0 → a ≡ Accepted
-zero-accepted Accepted e = refl
-zero-accepted OverLimit e = absurd (omega arith)
-zero-accepted (WrongLengths which) e = absurd (omega arith)
-zero-accepted (WrongStarts position) e = absurd (omega arith)
-zero-accepted (WrongColumn k) e = absurd (omega arith)
-zero-accepted (ShortArea area need) e = absurd (omega arith)
-zero-accepted (OverCap entries cap) e = absurd (omega arith)
-zero-accepted (WrongOrder position) e = absurd (omega arith)
-zero-accepted (WrongPivot k) e = absurd (omega arith)
-zero-accepted (WrongSide length) e = absurd (omega arith)
-zero-accepted NoFactor e = absurd (omega arith)
-zero-accepted WrongStructure e = absurd (omega arith)
-zero-accepted (WrongFrame line) e = absurd (omega arith)
 
 -- whatever follows from either
 pub accepted-or : {P : Type 0} (a : Answer) → (a ≡ Accepted → P) → (a ≢ Accepted → P) → P

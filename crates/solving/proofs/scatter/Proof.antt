@@ -1,4 +1,4 @@
--- `solving::scatter` meets its contract: the unknowns before a are back. Assumes nothing.
+-- `solving::scatter` meets its contract: the unknowns before q are back. Assumes nothing.
 use Prim.Native.Nat.{_-_}
 use native.Mathlib.Omega.{arith}
 use lib.ListN.{length}
@@ -9,10 +9,10 @@ use Rattle.solving.proofs.scatter.Statement.{statement}
 use Rattle.solving.proofs.scatter.Tie as tie
 
 abbrev Inv-loop : tie.InvT-loop
-Inv-loop permutation x b₀ a₀ b a = Back permutation x b₀ b a
+Inv-loop permutation x b₀ q₀ b q = Back permutation x b₀ b q
 
 abbrev μ-loop : tie.MeasureT-loop
-μ-loop permutation x b₀ a₀ b a = length x - a
+μ-loop permutation x b₀ q₀ b q = length x - q
 
 loop-holds : tie.Need-loop-holds Inv-loop μ-loop
 loop-holds c = back-start _ _ _
@@ -27,7 +27,7 @@ mul-b : tie.Need-mul-b Inv-loop μ-loop
 mul-b c =
     let loop′ = c .before .before .loop in
     let pre′ = c .before .before .before .pre in
-    omega (arith, loop′ .inv .long, pre′ .0 .1, permuted _ _ (pre′ .0 .0) (true-T (pre′ .1)) .low (loop′ .a) (omega arith))
+    omega (arith, loop′ .inv .long, pre′ .0 .1, permuted _ _ (pre′ .0 .0) (true-T (pre′ .1)) .low (loop′ .q) (omega arith))
 
 shared-slice-read-b : tie.Need-shared-slice-read-b Inv-loop μ-loop
 shared-slice-read-b c = omega arith
@@ -36,16 +36,16 @@ mul-b-2 : tie.Need-mul-b-2 Inv-loop μ-loop
 mul-b-2 c =
     let loop′ = c .before .before .before .loop in
     let pre′ = c .before .before .before .before .pre in
-    omega (arith, loop′ .inv .long, pre′ .0 .1, permuted _ _ (pre′ .0 .0) (true-T (pre′ .1)) .low (loop′ .a) (omega arith))
+    omega (arith, loop′ .inv .long, pre′ .0 .1, permuted _ _ (pre′ .0 .0) (true-T (pre′ .1)) .low (loop′ .q) (omega arith))
 
 slice-write-b : tie.Need-slice-write-b Inv-loop μ-loop
 slice-write-b c =
     let loop′ = c .before .before .before .loop in
     let pre′ = c .before .before .before .before .pre in
-    omega (arith, loop′ .inv .long, pre′ .0 .1, permuted _ _ (pre′ .0 .0) (true-T (pre′ .1)) .low (loop′ .a) (omega arith))
+    omega (arith, loop′ .inv .long, pre′ .0 .1, permuted _ _ (pre′ .0 .0) (true-T (pre′ .1)) .low (loop′ .q) (omega arith))
 
-add-a : tie.Need-add-a Inv-loop μ-loop
-add-a c = omega arith
+add-q : tie.Need-add-q Inv-loop μ-loop
+add-q c = omega arith
 
 loop-less : tie.Need-loop-less Inv-loop μ-loop
 loop-less c = omega arith
@@ -68,4 +68,4 @@ returns c =
     back-over (loop′ .inv) (permuted _ _ (pre′ .0 .0) (true-T (pre′ .1))) (pre′ .0 .1) (omega arith)
 
 pub scatter-spec : {M : Type 1} → statement M
-scatter-spec = tie.close (tie.spec Inv-loop μ-loop loop-holds mul-k shared-slice-read-k mul-b shared-slice-read-b mul-b-2 slice-write-b add-a loop-less loop-again same-length returns)
+scatter-spec = tie.close (tie.spec Inv-loop μ-loop loop-holds mul-k shared-slice-read-k mul-b shared-slice-read-b mul-b-2 slice-write-b add-q loop-less loop-again same-length returns)
