@@ -25,7 +25,7 @@ use Rattle.frames.specs.Held.{readingOf, answerOf, Kept, Done}
 use Rattle.frames.specs.declared.Read.{Read}
 use Rattle.frames.specs.declared.Read.the-variants.{Whole, Fault}
 use Rattle.frames.proofs.Wholes.{whole-form, front-matrix, front-right}
-use Rattle.reply.specs.Made.{factored, Made}
+use Rattle.reply.specs.Made.{Made}
 
 -- what factor settles over a job's areas is the job's
 pub made : (j : Frames) {M : Matrix} {cap : ℕ} {o : Order} {list : List ℕ} {e : Stop} {room : Room} {x : Outcome} {p f s g t top w : List ℕ} {y : List Float} {n : List ℕ} {u : List Update} {v b : List Float} {words floats : ℕ}
