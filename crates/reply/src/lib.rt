@@ -1,9 +1,10 @@
 // A job's factor to the text of its answer.
+ghost use mathlib.Core.Path.{_≡_};
 ghost use Prim.Native.Nat.{_≤_};
 ghost use lib.ListN.{length};
-ghost use Rattle.statement.specs.Job.{Frames, whole, written};
+ghost use Rattle.statement.specs.Job.{Frames, whole, written, answerIn};
 ghost use Rattle.laws.specs.Lent.{lent};
-ghost use Rattle.jobs.specs.Worked.{Wrote, Made};
+ghost use Rattle.reply.specs.Made.{Made};
 use lines::put_refusal;
 use lines::put_success;
 use solve::solve;
@@ -24,7 +25,7 @@ pub fn answer(
     out: &mut [u8; 2959],
 ) -> usize
     requires { ⌜ length (now b) ≤ 128 ⌝ }
-    ensures { λ r. ⌜ ((j : Frames) → Made j x (lent (now (permutation .entry)) (now (firsts .entry)) (now (starts .entry)) (now (rows .entry)) (now (values .entry))) (now (b .entry)) (length (now (words .entry))) (length (now (floats .entry))) → Wrote (written (whole j)) r (now (out .entry)) (now (out .exit))) ⌝ }
+    ensures { λ r. ⌜ ((j : Frames) → Made j x (lent (now (permutation .entry)) (now (firsts .entry)) (now (starts .entry)) (now (rows .entry)) (now (values .entry))) (now (b .entry)) (length (now (words .entry))) (length (now (floats .entry))) → record { out = now (out .exit); bytes = r } ≡ answerIn (written (whole j)) (now (out .entry))) ⌝ }
 {
     let a = x.answer;
     let Answer::Accepted = a else {
