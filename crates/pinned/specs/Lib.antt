@@ -3,3 +3,4 @@ pub mod Analyse
 pub mod Factor
 pub mod Solve
 pub mod Column
+pub mod Job
