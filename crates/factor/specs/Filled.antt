@@ -1,3 +1,2 @@
--- What factor leaves, and the room that the lent areas give. Definitions only.
+-- The room that the lent areas give. Definitions only.
 pub use Rattle.begin.specs.Begun.{lentAll}
-pub use Rattle.finish.specs.Filled.{FactorSettles}
