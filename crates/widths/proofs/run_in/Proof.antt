@@ -1,8 +1,7 @@
 -- `widths::run_in` meets its contract: a walk of its MIR that tools/walk.py wrote, cut after each call. Assumes nothing.
 use Prim.Native.Nat.{_<_, _^_, ℕ}
-use Rattle.factor.specs.Filled.{FactorSettles, lentAll}
 use Rattle.statement.specs.Areas.{noUpdate}
-use Rattle.statement.specs.Calls.{factor}
+use Rattle.statement.specs.Calls.{Factors}
 use Rattle.statement.specs.Input.{matrix}
 use base.Fml.{GName, Lft, Share, fat, fdies, flft, froom, ftrue}
 use base.Logic.{SProp, emp, ent, fst∗, id⊢, via}
@@ -391,7 +390,7 @@ module _ {M : Type 1} (𝓤 : URA M) (H : Heap 𝓤) (A : Atoms 𝓤) (W : Given
   abbrev ty60 : Ty
   ty60 = sliceTy (tyRef erased mut (tyFloat binary64))
 
-  exits : (u1 : Update) (r1 : Val) (is1 : Is T-Update.the-row u1 (r1 ∷ [])) (d1 : u1 ≡ noUpdate) (updates : List Update) (made-updates : updates ≡ replicate 16384 u1) (size-updates : length updates ≡ 16384) (u2 : Outcome) (r2 : Val) (is2 : Is T-Outcome.the-row u2 (r2 ∷ [])) (c2-permutation : List ℕ) (c2-firsts : List ℕ) (c2-starts : List ℕ) (c2-groups : List ℕ) (c2-tasks : List ℕ) (c2-top : List ℕ) (c2-words : List ℕ) (c2-floats : List Float) (c2-rows : List ℕ) (c2-updates : List Update) (c2-values : List Float) (d2 : FactorSettles (factor (matrix n (input-starts) (input-rows) (input-values)) 18446744073709551615 order («list») stop (lentAll (length (permutation)) (length (firsts)) (length (starts)) (length (groups)) (length (tasks)) (length (top)) (length (words)) (length (floats)) (length (rows)) (length (updates)) (length (values)))) u2 (c2-permutation) (c2-firsts) (c2-starts) (c2-groups) (c2-tasks) (c2-top) (c2-words) (c2-floats) (c2-rows) (c2-updates) (c2-values)) (same2-permutation : length c2-permutation ≡ length permutation) (same2-firsts : length c2-firsts ≡ length firsts) (same2-starts : length c2-starts ≡ length starts) (same2-groups : length c2-groups ≡ length groups) (same2-tasks : length c2-tasks ≡ length tasks) (same2-top : length c2-top ≡ length top) (same2-words : length c2-words ≡ length words) (same2-floats : length c2-floats ≡ length floats) (same2-rows : length c2-rows ≡ length rows) (same2-updates : length c2-updates ≡ length updates) (same2-values : length c2-values ≡ length values) (c3-words : List ℕ) (c3-floats : List Float) (c3-b : List Float) (same3-words : length c3-words ≡ length c2-words) (same3-floats : length c3-floats ≡ length c2-floats) (same3-b : length c3-b ≡ length b) → ent 𝓤 (⋆ 𝓤 H A (‵ (flft κ-input-starts q-input-starts) ∷ ‵ (flft κ-input-rows q-input-rows) ∷ ‵ (flft κ-input-values q-input-values) ∷ ‵ (flft κ-list q-list) ∷ ‵ (flft κ-permutation q-permutation) ∷ ‵ (flft κ-firsts q-firsts) ∷ ‵ (flft κ-starts q-starts) ∷ ‵ (flft κ-groups q-groups) ∷ ‵ (flft κ-tasks q-tasks) ∷ ‵ (flft κ-top q-top) ∷ ‵ (flft κ-words q-words) ∷ ‵ (flft κ-floats q-floats) ∷ ‵ (flft κ-rows q-rows) ∷ ‵ (flft κ-values q-values) ∷ ‵ (flft κ-b q-b) ∷ ‵ (ShrSlice (named 0) κ-input-starts usize .own (ref-input-starts γ-input-starts input-starts) (sliceVal (b-input-starts, o-input-starts) (length input-starts) ∷ [])) ∷ ‵ (ShrSlice (named 1) κ-input-rows usize .own (ref-input-rows γ-input-rows input-rows) (sliceVal (b-input-rows, o-input-rows) (length input-rows) ∷ [])) ∷ ‵ (ShrSlice (named 2) κ-input-values f64 .own (ref-input-values γ-input-values input-values) (sliceVal (b-input-values, o-input-values) (length input-values) ∷ [])) ∷ ‵ (ShrSlice (named 3) κ-list usize .own (ref-list γ-list «list») (sliceVal (b-list, o-list) (length «list») ∷ [])) ∷ ‵ (MutSlice (named 4) κ-permutation usize .own (ref-permutation γ-permutation c2-permutation) (sliceVal (b-permutation, o-permutation) (length permutation) ∷ [])) ∷ ‵ (MutSlice (named 5) κ-firsts usize .own (ref-firsts γ-firsts c2-firsts) (sliceVal (b-firsts, o-firsts) (length firsts) ∷ [])) ∷ ‵ (MutSlice (named 6) κ-starts usize .own (ref-starts γ-starts c2-starts) (sliceVal (b-starts, o-starts) (length starts) ∷ [])) ∷ ‵ (MutSlice (named 7) κ-groups usize .own (ref-groups γ-groups c2-groups) (sliceVal (b-groups, o-groups) (length groups) ∷ [])) ∷ ‵ (MutSlice (named 8) κ-tasks usize .own (ref-tasks γ-tasks c2-tasks) (sliceVal (b-tasks, o-tasks) (length tasks) ∷ [])) ∷ ‵ (MutSlice (named 9) κ-top usize .own (ref-top γ-top c2-top) (sliceVal (b-top, o-top) (length top) ∷ [])) ∷ ‵ (MutSlice (named 10) κ-words usize .own (ref-words γ-words c3-words) (sliceVal (b-words, o-words) (length words) ∷ [])) ∷ ‵ (MutSlice (named 11) κ-floats f64 .own (ref-floats γ-floats c3-floats) (sliceVal (b-floats, o-floats) (length floats) ∷ [])) ∷ ‵ (MutSlice (named 12) κ-rows usize .own (ref-rows γ-rows c2-rows) (sliceVal (b-rows, o-rows) (length rows) ∷ [])) ∷ ‵ (MutSlice (named 13) κ-values f64 .own (ref-values γ-values c2-values) (sliceVal (b-values, o-values) (length values) ∷ [])) ∷ ‵ (MutSlice (named 14) κ-b f64 .own (ref-b γ-b c3-b) (sliceVal (b-b, o-b) (length b) ∷ [])) ∷ [])) (Post vunit)
+  exits : (u1 : Update) (r1 : Val) (is1 : Is T-Update.the-row u1 (r1 ∷ [])) (d1 : u1 ≡ noUpdate) (updates : List Update) (made-updates : updates ≡ replicate 16384 u1) (size-updates : length updates ≡ 16384) (u2 : Outcome) (r2 : Val) (is2 : Is T-Outcome.the-row u2 (r2 ∷ [])) (c2-permutation : List ℕ) (c2-firsts : List ℕ) (c2-starts : List ℕ) (c2-groups : List ℕ) (c2-tasks : List ℕ) (c2-top : List ℕ) (c2-words : List ℕ) (c2-floats : List Float) (c2-rows : List ℕ) (c2-updates : List Update) (c2-values : List Float) (d2 : Factors (matrix n (input-starts) (input-rows) (input-values)) 18446744073709551615 order («list») stop (record { permutation = length (permutation); firsts = length (firsts); starts = length (starts); groups = length (groups); tasks = length (tasks); top = length (top); words = length (words); floats = length (floats); rows = length (rows); updates = length (updates); values = length (values) }) (record { returned = u2; areas = record { permutation = c2-permutation; firsts = c2-firsts; starts = c2-starts; groups = c2-groups; tasks = c2-tasks; top = c2-top; words = c2-words; floats = c2-floats; rows = c2-rows; updates = c2-updates; values = c2-values } })) (same2-permutation : length c2-permutation ≡ length permutation) (same2-firsts : length c2-firsts ≡ length firsts) (same2-starts : length c2-starts ≡ length starts) (same2-groups : length c2-groups ≡ length groups) (same2-tasks : length c2-tasks ≡ length tasks) (same2-top : length c2-top ≡ length top) (same2-words : length c2-words ≡ length words) (same2-floats : length c2-floats ≡ length floats) (same2-rows : length c2-rows ≡ length rows) (same2-updates : length c2-updates ≡ length updates) (same2-values : length c2-values ≡ length values) (c3-words : List ℕ) (c3-floats : List Float) (c3-b : List Float) (same3-words : length c3-words ≡ length c2-words) (same3-floats : length c3-floats ≡ length c2-floats) (same3-b : length c3-b ≡ length b) → ent 𝓤 (⋆ 𝓤 H A (‵ (flft κ-input-starts q-input-starts) ∷ ‵ (flft κ-input-rows q-input-rows) ∷ ‵ (flft κ-input-values q-input-values) ∷ ‵ (flft κ-list q-list) ∷ ‵ (flft κ-permutation q-permutation) ∷ ‵ (flft κ-firsts q-firsts) ∷ ‵ (flft κ-starts q-starts) ∷ ‵ (flft κ-groups q-groups) ∷ ‵ (flft κ-tasks q-tasks) ∷ ‵ (flft κ-top q-top) ∷ ‵ (flft κ-words q-words) ∷ ‵ (flft κ-floats q-floats) ∷ ‵ (flft κ-rows q-rows) ∷ ‵ (flft κ-values q-values) ∷ ‵ (flft κ-b q-b) ∷ ‵ (ShrSlice (named 0) κ-input-starts usize .own (ref-input-starts γ-input-starts input-starts) (sliceVal (b-input-starts, o-input-starts) (length input-starts) ∷ [])) ∷ ‵ (ShrSlice (named 1) κ-input-rows usize .own (ref-input-rows γ-input-rows input-rows) (sliceVal (b-input-rows, o-input-rows) (length input-rows) ∷ [])) ∷ ‵ (ShrSlice (named 2) κ-input-values f64 .own (ref-input-values γ-input-values input-values) (sliceVal (b-input-values, o-input-values) (length input-values) ∷ [])) ∷ ‵ (ShrSlice (named 3) κ-list usize .own (ref-list γ-list «list») (sliceVal (b-list, o-list) (length «list») ∷ [])) ∷ ‵ (MutSlice (named 4) κ-permutation usize .own (ref-permutation γ-permutation c2-permutation) (sliceVal (b-permutation, o-permutation) (length permutation) ∷ [])) ∷ ‵ (MutSlice (named 5) κ-firsts usize .own (ref-firsts γ-firsts c2-firsts) (sliceVal (b-firsts, o-firsts) (length firsts) ∷ [])) ∷ ‵ (MutSlice (named 6) κ-starts usize .own (ref-starts γ-starts c2-starts) (sliceVal (b-starts, o-starts) (length starts) ∷ [])) ∷ ‵ (MutSlice (named 7) κ-groups usize .own (ref-groups γ-groups c2-groups) (sliceVal (b-groups, o-groups) (length groups) ∷ [])) ∷ ‵ (MutSlice (named 8) κ-tasks usize .own (ref-tasks γ-tasks c2-tasks) (sliceVal (b-tasks, o-tasks) (length tasks) ∷ [])) ∷ ‵ (MutSlice (named 9) κ-top usize .own (ref-top γ-top c2-top) (sliceVal (b-top, o-top) (length top) ∷ [])) ∷ ‵ (MutSlice (named 10) κ-words usize .own (ref-words γ-words c3-words) (sliceVal (b-words, o-words) (length words) ∷ [])) ∷ ‵ (MutSlice (named 11) κ-floats f64 .own (ref-floats γ-floats c3-floats) (sliceVal (b-floats, o-floats) (length floats) ∷ [])) ∷ ‵ (MutSlice (named 12) κ-rows usize .own (ref-rows γ-rows c2-rows) (sliceVal (b-rows, o-rows) (length rows) ∷ [])) ∷ ‵ (MutSlice (named 13) κ-values f64 .own (ref-values γ-values c2-values) (sliceVal (b-values, o-values) (length values) ∷ [])) ∷ ‵ (MutSlice (named 14) κ-b f64 .own (ref-b γ-b c3-b) (sliceVal (b-b, o-b) (length b) ∷ [])) ∷ [])) (Post vunit)
   exits u1 r1 is1 d1 updates made-updates size-updates u2 r2 is2 c2-permutation c2-firsts c2-starts c2-groups c2-tasks c2-top c2-words c2-floats c2-rows c2-updates c2-values d2 same2-permutation same2-firsts same2-starts same2-groups same2-tasks same2-top same2-words same2-floats same2-rows same2-updates same2-values c3-words c3-floats c3-b same3-words same3-floats same3-b =
       qed W (‵ (flft κ-input-starts q-input-starts) ∷ ‵ (flft κ-input-rows q-input-rows) ∷ ‵ (flft κ-input-values q-input-values) ∷ ‵ (flft κ-list q-list) ∷ ‵ (flft κ-permutation q-permutation) ∷ ‵ (flft κ-firsts q-firsts) ∷ ‵ (flft κ-starts q-starts) ∷ ‵ (flft κ-groups q-groups) ∷ ‵ (flft κ-tasks q-tasks) ∷ ‵ (flft κ-top q-top) ∷ ‵ (flft κ-words q-words) ∷ ‵ (flft κ-floats q-floats) ∷ ‵ (flft κ-rows q-rows) ∷ ‵ (flft κ-values q-values) ∷ ‵ (flft κ-b q-b) ∷ ‵ (ShrSlice (named 0) κ-input-starts usize .own (ref-input-starts γ-input-starts input-starts) (sliceVal (b-input-starts, o-input-starts) (length input-starts) ∷ [])) ∷ ‵ (ShrSlice (named 1) κ-input-rows usize .own (ref-input-rows γ-input-rows input-rows) (sliceVal (b-input-rows, o-input-rows) (length input-rows) ∷ [])) ∷ ‵ (ShrSlice (named 2) κ-input-values f64 .own (ref-input-values γ-input-values input-values) (sliceVal (b-input-values, o-input-values) (length input-values) ∷ [])) ∷ ‵ (ShrSlice (named 3) κ-list usize .own (ref-list γ-list «list») (sliceVal (b-list, o-list) (length «list») ∷ [])) ∷ ‵ (MutSlice (named 4) κ-permutation usize .own (ref-permutation γ-permutation c2-permutation) (sliceVal (b-permutation, o-permutation) (length permutation) ∷ [])) ∷ ‵ (MutSlice (named 5) κ-firsts usize .own (ref-firsts γ-firsts c2-firsts) (sliceVal (b-firsts, o-firsts) (length firsts) ∷ [])) ∷ ‵ (MutSlice (named 6) κ-starts usize .own (ref-starts γ-starts c2-starts) (sliceVal (b-starts, o-starts) (length starts) ∷ [])) ∷ ‵ (MutSlice (named 7) κ-groups usize .own (ref-groups γ-groups c2-groups) (sliceVal (b-groups, o-groups) (length groups) ∷ [])) ∷ ‵ (MutSlice (named 8) κ-tasks usize .own (ref-tasks γ-tasks c2-tasks) (sliceVal (b-tasks, o-tasks) (length tasks) ∷ [])) ∷ ‵ (MutSlice (named 9) κ-top usize .own (ref-top γ-top c2-top) (sliceVal (b-top, o-top) (length top) ∷ [])) ∷ ‵ (MutSlice (named 10) κ-words usize .own (ref-words γ-words c3-words) (sliceVal (b-words, o-words) (length words) ∷ [])) ∷ ‵ (MutSlice (named 11) κ-floats f64 .own (ref-floats γ-floats c3-floats) (sliceVal (b-floats, o-floats) (length floats) ∷ [])) ∷ ‵ (MutSlice (named 12) κ-rows usize .own (ref-rows γ-rows c2-rows) (sliceVal (b-rows, o-rows) (length rows) ∷ [])) ∷ ‵ (MutSlice (named 13) κ-values f64 .own (ref-values γ-values c2-values) (sliceVal (b-values, o-values) (length values) ∷ [])) ∷ ‵ (MutSlice (named 14) κ-b f64 .own (ref-b γ-b c3-b) (sliceVal (b-b, o-b) (length b) ∷ [])) ∷ []) ∵
       w-suffices ! _ (ends-at 𝓤 H A here.ended stayed (here.clauses 𝓤 H A mem run) W bound vunit tt (tt, (tt, (tt, (tt, (tt, (tt, (tt, (c2-permutation, (c2-firsts, (c2-starts, (c2-groups, (c2-tasks, (c2-top, (c3-words, (c3-floats, (c2-rows, (c2-values, (c3-b, tt)))))))))))))))))) (tt, (tt, (tt, (tt, (tt, (tt, (tt, (same2-permutation, (same2-firsts, (same2-starts, (same2-groups, (same2-tasks, (same2-top, (same3-words ∙ same2-words, (same3-floats ∙ same2-floats, (same2-rows, (same2-values, (same3-b, tt))))))))))))))))))) $ w-says-nothing ! $
@@ -417,7 +416,7 @@ module _ {M : Type 1} (𝓤 : URA M) (H : Heap 𝓤) (A : Atoms 𝓤) (W : Given
     asked2 u1 r1 is1 d1 updates made-updates size-updates l20 ν2-8 δ2-8 ν2-9 δ2-9 ν2-10 δ2-10 ν2-11 δ2-11 ν2-12 δ2-12 ν2-13 δ2-13 ν2-14 δ2-14 ν2-15 δ2-15 ν2-16 δ2-16 ν2-17 δ2-17 ν2-18 δ2-18 =
         qed W ((‵ (flft (κ-input-starts) q-input-starts) ⊛ ‵ (flft (κ-input-rows) q-input-rows) ⊛ ‵ (flft (κ-input-values) q-input-values) ⊛ ‵ (flft (κ-list) q-list) ⊛ ‵ (flft (ν2-8 ∷ []) fullShare) ⊛ ‵ (flft (ν2-9 ∷ []) fullShare) ⊛ ‵ (flft (ν2-10 ∷ []) fullShare) ⊛ ‵ (flft (ν2-11 ∷ []) fullShare) ⊛ ‵ (flft (ν2-12 ∷ []) fullShare) ⊛ ‵ (flft (ν2-13 ∷ []) fullShare) ⊛ ‵ (flft (ν2-14 ∷ []) fullShare) ⊛ ‵ (flft (ν2-15 ∷ []) fullShare) ⊛ ‵ (flft (ν2-16 ∷ []) fullShare) ⊛ ‵ (flft (ν2-17 ∷ []) fullShare) ⊛ ‵ (flft (ν2-18 ∷ []) fullShare) ⊛ ‵ ftrue) ∷ ‵ (owns (usize ∷ ShrSlice (named 0) (κ-input-starts) usize ∷ ShrSlice (named 1) (κ-input-rows) usize ∷ ShrSlice (named 2) (κ-input-values) f64 ∷ usize ∷ T-Order.the-row ∷ ShrSlice (named 3) (κ-list) usize ∷ T-Stop.the-row ∷ MutSlice (named 4) (ν2-8 ∷ []) usize ∷ MutSlice (named 5) (ν2-9 ∷ []) usize ∷ MutSlice (named 6) (ν2-10 ∷ []) usize ∷ MutSlice (named 7) (ν2-11 ∷ []) usize ∷ MutSlice (named 8) (ν2-12 ∷ []) usize ∷ MutSlice (named 9) (ν2-13 ∷ []) usize ∷ MutSlice (named 10) (ν2-14 ∷ []) usize ∷ MutSlice (named 11) (ν2-15 ∷ []) f64 ∷ MutSlice (named 12) (ν2-16 ∷ []) usize ∷ MutSlice (named 13) (ν2-17 ∷ []) T-Update.the-row ∷ MutSlice (named 14) (ν2-18 ∷ []) f64 ∷ []) (n, (ref-input-starts γ-input-starts input-starts, (ref-input-rows γ-input-rows input-rows, (ref-input-values γ-input-values input-values, (18446744073709551615, (order, (ref-list γ-list «list», (stop, (ref-permutation δ2-8 permutation, (ref-firsts δ2-9 firsts, (ref-starts δ2-10 starts, (ref-groups δ2-11 groups, (ref-tasks δ2-12 tasks, (ref-top δ2-13 top, (ref-words δ2-14 words, (ref-floats δ2-15 floats, (ref-rows δ2-16 rows, (ref-updates l20 δ2-17 updates, (ref-values δ2-18 values, tt))))))))))))))))))) (vint w64 n ∷ [], (s-input-starts ∷ [], (s-input-rows ∷ [], (s-input-values ∷ [], (vint w64 18446744073709551615 ∷ [], (m-order ∷ [], (s-list ∷ [], (m-stop ∷ [], (s-permutation ∷ [], (s-firsts ∷ [], (s-starts ∷ [], (s-groups ∷ [], (s-tasks ∷ [], (s-top ∷ [], (s-words ∷ [], (s-floats ∷ [], (s-rows ∷ [], (sliceVal (l20, 0) (length updates) ∷ [], (s-values ∷ [], tt)))))))))))))))))))) ∷ []) ∵ w-join ! $ w-frame ! $ done !
 
-    asked3 : (u1 : Update) (r1 : Val) (is1 : Is T-Update.the-row u1 (r1 ∷ [])) (d1 : u1 ≡ noUpdate) (updates : List Update) (made-updates : updates ≡ replicate 16384 u1) (size-updates : length updates ≡ 16384) (u2 : Outcome) (r2 : Val) (is2 : Is T-Outcome.the-row u2 (r2 ∷ [])) (c2-permutation : List ℕ) (c2-firsts : List ℕ) (c2-starts : List ℕ) (c2-groups : List ℕ) (c2-tasks : List ℕ) (c2-top : List ℕ) (c2-words : List ℕ) (c2-floats : List Float) (c2-rows : List ℕ) (c2-updates : List Update) (c2-values : List Float) (d2 : FactorSettles (factor (matrix n (input-starts) (input-rows) (input-values)) 18446744073709551615 order («list») stop (lentAll (length (permutation)) (length (firsts)) (length (starts)) (length (groups)) (length (tasks)) (length (top)) (length (words)) (length (floats)) (length (rows)) (length (updates)) (length (values)))) u2 (c2-permutation) (c2-firsts) (c2-starts) (c2-groups) (c2-tasks) (c2-top) (c2-words) (c2-floats) (c2-rows) (c2-updates) (c2-values)) (same2-permutation : length c2-permutation ≡ length permutation) (same2-firsts : length c2-firsts ≡ length firsts) (same2-starts : length c2-starts ≡ length starts) (same2-groups : length c2-groups ≡ length groups) (same2-tasks : length c2-tasks ≡ length tasks) (same2-top : length c2-top ≡ length top) (same2-words : length c2-words ≡ length words) (same2-floats : length c2-floats ≡ length floats) (same2-rows : length c2-rows ≡ length rows) (same2-updates : length c2-updates ≡ length updates) (same2-values : length c2-values ≡ length values) (ν3-1 : ℕ) (δ3-1 : GName) (ν3-2 : ℕ) (δ3-2 : GName) (ν3-3 : ℕ) (δ3-3 : GName) (ν3-4 : ℕ) (δ3-4 : GName) (ν3-5 : ℕ) (δ3-5 : GName) (ν3-6 : ℕ) (δ3-6 : GName) (ν3-7 : ℕ) (δ3-7 : GName) (ν3-8 : ℕ) (δ3-8 : GName) → ent 𝓤 (onEntry 𝓤 H A f-solve-and-print.signature (ν3-1 ∷ [], (ν3-2 ∷ [], (ν3-3 ∷ [], (ν3-4 ∷ [], (ν3-5 ∷ [], (ν3-6 ∷ [], (ν3-7 ∷ [], (ν3-8 ∷ [], tt)))))))) (fullShare, (fullShare, (fullShare, (fullShare, (fullShare, (fullShare, (fullShare, (fullShare, tt)))))))) (u2, (ref-permutation δ3-1 c2-permutation, (ref-firsts δ3-2 c2-firsts, (ref-starts δ3-3 c2-starts, (ref-rows δ3-4 c2-rows, (ref-values δ3-5 c2-values, (ref-words δ3-6 c2-words, (ref-floats δ3-7 c2-floats, (ref-b δ3-8 b, tt))))))))) (r2 ∷ [], (s-permutation ∷ [], (s-firsts ∷ [], (s-starts ∷ [], (s-rows ∷ [], (s-values ∷ [], (s-words ∷ [], (s-floats ∷ [], (s-b ∷ [], tt)))))))))) (C-solve-and-print 𝓤 H A mem run .pre (((ν3-1 ∷ [], (ν3-2 ∷ [], (ν3-3 ∷ [], (ν3-4 ∷ [], (ν3-5 ∷ [], (ν3-6 ∷ [], (ν3-7 ∷ [], (ν3-8 ∷ [], tt)))))))), (fullShare, (fullShare, (fullShare, (fullShare, (fullShare, (fullShare, (fullShare, (fullShare, tt)))))))), tt, (u2, (ref-permutation δ3-1 c2-permutation, (ref-firsts δ3-2 c2-firsts, (ref-starts δ3-3 c2-starts, (ref-rows δ3-4 c2-rows, (ref-values δ3-5 c2-values, (ref-words δ3-6 c2-words, (ref-floats δ3-7 c2-floats, (ref-b δ3-8 b, tt))))))))), (r2 ∷ [], (s-permutation ∷ [], (s-firsts ∷ [], (s-starts ∷ [], (s-rows ∷ [], (s-values ∷ [], (s-words ∷ [], (s-floats ∷ [], (s-b ∷ [], tt)))))))))), tt))
+    asked3 : (u1 : Update) (r1 : Val) (is1 : Is T-Update.the-row u1 (r1 ∷ [])) (d1 : u1 ≡ noUpdate) (updates : List Update) (made-updates : updates ≡ replicate 16384 u1) (size-updates : length updates ≡ 16384) (u2 : Outcome) (r2 : Val) (is2 : Is T-Outcome.the-row u2 (r2 ∷ [])) (c2-permutation : List ℕ) (c2-firsts : List ℕ) (c2-starts : List ℕ) (c2-groups : List ℕ) (c2-tasks : List ℕ) (c2-top : List ℕ) (c2-words : List ℕ) (c2-floats : List Float) (c2-rows : List ℕ) (c2-updates : List Update) (c2-values : List Float) (d2 : Factors (matrix n (input-starts) (input-rows) (input-values)) 18446744073709551615 order («list») stop (record { permutation = length (permutation); firsts = length (firsts); starts = length (starts); groups = length (groups); tasks = length (tasks); top = length (top); words = length (words); floats = length (floats); rows = length (rows); updates = length (updates); values = length (values) }) (record { returned = u2; areas = record { permutation = c2-permutation; firsts = c2-firsts; starts = c2-starts; groups = c2-groups; tasks = c2-tasks; top = c2-top; words = c2-words; floats = c2-floats; rows = c2-rows; updates = c2-updates; values = c2-values } })) (same2-permutation : length c2-permutation ≡ length permutation) (same2-firsts : length c2-firsts ≡ length firsts) (same2-starts : length c2-starts ≡ length starts) (same2-groups : length c2-groups ≡ length groups) (same2-tasks : length c2-tasks ≡ length tasks) (same2-top : length c2-top ≡ length top) (same2-words : length c2-words ≡ length words) (same2-floats : length c2-floats ≡ length floats) (same2-rows : length c2-rows ≡ length rows) (same2-updates : length c2-updates ≡ length updates) (same2-values : length c2-values ≡ length values) (ν3-1 : ℕ) (δ3-1 : GName) (ν3-2 : ℕ) (δ3-2 : GName) (ν3-3 : ℕ) (δ3-3 : GName) (ν3-4 : ℕ) (δ3-4 : GName) (ν3-5 : ℕ) (δ3-5 : GName) (ν3-6 : ℕ) (δ3-6 : GName) (ν3-7 : ℕ) (δ3-7 : GName) (ν3-8 : ℕ) (δ3-8 : GName) → ent 𝓤 (onEntry 𝓤 H A f-solve-and-print.signature (ν3-1 ∷ [], (ν3-2 ∷ [], (ν3-3 ∷ [], (ν3-4 ∷ [], (ν3-5 ∷ [], (ν3-6 ∷ [], (ν3-7 ∷ [], (ν3-8 ∷ [], tt)))))))) (fullShare, (fullShare, (fullShare, (fullShare, (fullShare, (fullShare, (fullShare, (fullShare, tt)))))))) (u2, (ref-permutation δ3-1 c2-permutation, (ref-firsts δ3-2 c2-firsts, (ref-starts δ3-3 c2-starts, (ref-rows δ3-4 c2-rows, (ref-values δ3-5 c2-values, (ref-words δ3-6 c2-words, (ref-floats δ3-7 c2-floats, (ref-b δ3-8 b, tt))))))))) (r2 ∷ [], (s-permutation ∷ [], (s-firsts ∷ [], (s-starts ∷ [], (s-rows ∷ [], (s-values ∷ [], (s-words ∷ [], (s-floats ∷ [], (s-b ∷ [], tt)))))))))) (C-solve-and-print 𝓤 H A mem run .pre (((ν3-1 ∷ [], (ν3-2 ∷ [], (ν3-3 ∷ [], (ν3-4 ∷ [], (ν3-5 ∷ [], (ν3-6 ∷ [], (ν3-7 ∷ [], (ν3-8 ∷ [], tt)))))))), (fullShare, (fullShare, (fullShare, (fullShare, (fullShare, (fullShare, (fullShare, (fullShare, tt)))))))), tt, (u2, (ref-permutation δ3-1 c2-permutation, (ref-firsts δ3-2 c2-firsts, (ref-starts δ3-3 c2-starts, (ref-rows δ3-4 c2-rows, (ref-values δ3-5 c2-values, (ref-words δ3-6 c2-words, (ref-floats δ3-7 c2-floats, (ref-b δ3-8 b, tt))))))))), (r2 ∷ [], (s-permutation ∷ [], (s-firsts ∷ [], (s-starts ∷ [], (s-rows ∷ [], (s-values ∷ [], (s-words ∷ [], (s-floats ∷ [], (s-b ∷ [], tt)))))))))), tt))
     asked3 u1 r1 is1 d1 updates made-updates size-updates u2 r2 is2 c2-permutation c2-firsts c2-starts c2-groups c2-tasks c2-top c2-words c2-floats c2-rows c2-updates c2-values d2 same2-permutation same2-firsts same2-starts same2-groups same2-tasks same2-top same2-words same2-floats same2-rows same2-updates same2-values ν3-1 δ3-1 ν3-2 δ3-2 ν3-3 δ3-3 ν3-4 δ3-4 ν3-5 δ3-5 ν3-6 δ3-6 ν3-7 δ3-7 ν3-8 δ3-8 =
         qed W ((‵ (flft (ν3-1 ∷ []) fullShare) ⊛ ‵ (flft (ν3-2 ∷ []) fullShare) ⊛ ‵ (flft (ν3-3 ∷ []) fullShare) ⊛ ‵ (flft (ν3-4 ∷ []) fullShare) ⊛ ‵ (flft (ν3-5 ∷ []) fullShare) ⊛ ‵ (flft (ν3-6 ∷ []) fullShare) ⊛ ‵ (flft (ν3-7 ∷ []) fullShare) ⊛ ‵ (flft (ν3-8 ∷ []) fullShare) ⊛ ‵ ftrue) ∷ ‵ (owns (T-Outcome.the-row ∷ ShrSlice (named 0) (ν3-1 ∷ []) usize ∷ ShrSlice (named 1) (ν3-2 ∷ []) usize ∷ ShrSlice (named 2) (ν3-3 ∷ []) usize ∷ ShrSlice (named 3) (ν3-4 ∷ []) usize ∷ ShrSlice (named 4) (ν3-5 ∷ []) f64 ∷ MutSlice (named 5) (ν3-6 ∷ []) usize ∷ MutSlice (named 6) (ν3-7 ∷ []) f64 ∷ MutSlice (named 7) (ν3-8 ∷ []) f64 ∷ []) (u2, (ref-permutation δ3-1 c2-permutation, (ref-firsts δ3-2 c2-firsts, (ref-starts δ3-3 c2-starts, (ref-rows δ3-4 c2-rows, (ref-values δ3-5 c2-values, (ref-words δ3-6 c2-words, (ref-floats δ3-7 c2-floats, (ref-b δ3-8 b, tt))))))))) (r2 ∷ [], (s-permutation ∷ [], (s-firsts ∷ [], (s-starts ∷ [], (s-rows ∷ [], (s-values ∷ [], (s-words ∷ [], (s-floats ∷ [], (s-b ∷ [], tt)))))))))) ∷ []) ∵ w-join ! $ w-frame ! $ done !
 
@@ -434,7 +433,7 @@ module _ {M : Type 1} (𝓤 : URA M) (H : Heap 𝓤) (A : Atoms 𝓤) (W : Given
       abbrev dying : List (Item 𝓤)
       dying = ‵ (fdies ty0 l0) ∷ ‵ (fdies ty1 l1) ∷ ‵ (fdies ty2 l2) ∷ ‵ (fdies ty3 l3) ∷ ‵ (fdies ty4 l4) ∷ ‵ (fdies ty5 l5) ∷ ‵ (fdies ty6 l6) ∷ ‵ (fdies ty7 l7) ∷ ‵ (fdies ty8 l8) ∷ ‵ (fdies ty9 l9) ∷ ‵ (fdies ty10 l10) ∷ ‵ (fdies ty11 l11) ∷ ‵ (fdies ty12 l12) ∷ ‵ (fdies ty13 l13) ∷ ‵ (fdies ty14 l14) ∷ ‵ (fdies ty15 l15) ∷ ‵ (fdies ty16 l16) ∷ ‵ (fdies ty17 l17) ∷ ‵ (fdies ty18 l18) ∷ ‵ (fdies ty19 l19) ∷ ‵ (fdies ty20 l20) ∷ ‵ (fdies ty21 l21) ∷ ‵ (fdies ty22 l22) ∷ ‵ (fdies ty23 l23) ∷ ‵ (fdies ty24 l24) ∷ ‵ (fdies ty25 l25) ∷ ‵ (fdies ty26 l26) ∷ ‵ (fdies ty27 l27) ∷ ‵ (fdies ty28 l28) ∷ ‵ (fdies ty29 l29) ∷ ‵ (fdies ty30 l30) ∷ ‵ (fdies ty31 l31) ∷ ‵ (fdies ty32 l32) ∷ ‵ (fdies ty33 l33) ∷ ‵ (fdies ty34 l34) ∷ ‵ (fdies ty35 l35) ∷ ‵ (fdies ty36 l36) ∷ ‵ (fdies ty37 l37) ∷ ‵ (fdies ty38 l38) ∷ ‵ (fdies ty39 l39) ∷ ‵ (fdies ty40 l40) ∷ ‵ (fdies ty41 l41) ∷ ‵ (fdies ty42 l42) ∷ ‵ (fdies ty43 l43) ∷ ‵ (fdies ty44 l44) ∷ ‵ (fdies ty45 l45) ∷ ‵ (fdies ty46 l46) ∷ ‵ (fdies ty47 l47) ∷ ‵ (fdies ty48 l48) ∷ ‵ (fdies ty49 l49) ∷ ‵ (fdies ty50 l50) ∷ ‵ (fdies ty51 l51) ∷ ‵ (fdies ty52 l52) ∷ ‵ (fdies ty53 l53) ∷ ‵ (fdies ty54 l54) ∷ ‵ (fdies ty55 l55) ∷ ‵ (fdies ty56 l56) ∷ ‵ (fdies ty57 l57) ∷ ‵ (fdies ty58 l58) ∷ ‵ (fdies ty59 l59) ∷ ‵ (fdies ty60 l60) ∷ []
 
-      after3 : (u1 : Update) (r1 : Val) (is1 : Is T-Update.the-row u1 (r1 ∷ [])) (d1 : u1 ≡ noUpdate) (updates : List Update) (made-updates : updates ≡ replicate 16384 u1) (size-updates : length updates ≡ 16384) (u2 : Outcome) (r2 : Val) (is2 : Is T-Outcome.the-row u2 (r2 ∷ [])) (c2-permutation : List ℕ) (c2-firsts : List ℕ) (c2-starts : List ℕ) (c2-groups : List ℕ) (c2-tasks : List ℕ) (c2-top : List ℕ) (c2-words : List ℕ) (c2-floats : List Float) (c2-rows : List ℕ) (c2-updates : List Update) (c2-values : List Float) (d2 : FactorSettles (factor (matrix n (input-starts) (input-rows) (input-values)) 18446744073709551615 order («list») stop (lentAll (length (permutation)) (length (firsts)) (length (starts)) (length (groups)) (length (tasks)) (length (top)) (length (words)) (length (floats)) (length (rows)) (length (updates)) (length (values)))) u2 (c2-permutation) (c2-firsts) (c2-starts) (c2-groups) (c2-tasks) (c2-top) (c2-words) (c2-floats) (c2-rows) (c2-updates) (c2-values)) (same2-permutation : length c2-permutation ≡ length permutation) (same2-firsts : length c2-firsts ≡ length firsts) (same2-starts : length c2-starts ≡ length starts) (same2-groups : length c2-groups ≡ length groups) (same2-tasks : length c2-tasks ≡ length tasks) (same2-top : length c2-top ≡ length top) (same2-words : length c2-words ≡ length words) (same2-floats : length c2-floats ≡ length floats) (same2-rows : length c2-rows ≡ length rows) (same2-updates : length c2-updates ≡ length updates) (same2-values : length c2-values ≡ length values) (c3-words : List ℕ) (c3-floats : List Float) (c3-b : List Float) (same3-words : length c3-words ≡ length c2-words) (same3-floats : length c3-floats ≡ length c2-floats) (same3-b : length c3-b ≡ length b) → Sq W (‵ (ShrSlice (named 0) κ-input-starts usize .own (ref-input-starts γ-input-starts input-starts) (sliceVal (b-input-starts, o-input-starts) (length input-starts) ∷ [])) ∷ ‵ (ShrSlice (named 1) κ-input-rows usize .own (ref-input-rows γ-input-rows input-rows) (sliceVal (b-input-rows, o-input-rows) (length input-rows) ∷ [])) ∷ ‵ (ShrSlice (named 2) κ-input-values f64 .own (ref-input-values γ-input-values input-values) (sliceVal (b-input-values, o-input-values) (length input-values) ∷ [])) ∷ ‵ (ShrSlice (named 3) κ-list usize .own (ref-list γ-list «list») (sliceVal (b-list, o-list) (length «list») ∷ [])) ∷ ‵ (MutSlice (named 4) κ-permutation usize .own (ref-permutation γ-permutation c2-permutation) (sliceVal (b-permutation, o-permutation) (length permutation) ∷ [])) ∷ ‵ (MutSlice (named 5) κ-firsts usize .own (ref-firsts γ-firsts c2-firsts) (sliceVal (b-firsts, o-firsts) (length firsts) ∷ [])) ∷ ‵ (MutSlice (named 6) κ-starts usize .own (ref-starts γ-starts c2-starts) (sliceVal (b-starts, o-starts) (length starts) ∷ [])) ∷ ‵ (MutSlice (named 7) κ-groups usize .own (ref-groups γ-groups c2-groups) (sliceVal (b-groups, o-groups) (length groups) ∷ [])) ∷ ‵ (MutSlice (named 8) κ-tasks usize .own (ref-tasks γ-tasks c2-tasks) (sliceVal (b-tasks, o-tasks) (length tasks) ∷ [])) ∷ ‵ (MutSlice (named 9) κ-top usize .own (ref-top γ-top c2-top) (sliceVal (b-top, o-top) (length top) ∷ [])) ∷ ‵ (MutSlice (named 10) κ-words usize .own (ref-words γ-words c3-words) (sliceVal (b-words, o-words) (length words) ∷ [])) ∷ ‵ (MutSlice (named 11) κ-floats f64 .own (ref-floats γ-floats c3-floats) (sliceVal (b-floats, o-floats) (length floats) ∷ [])) ∷ ‵ (MutSlice (named 12) κ-rows usize .own (ref-rows γ-rows c2-rows) (sliceVal (b-rows, o-rows) (length rows) ∷ [])) ∷ ‵ (MutSlice (named 13) κ-values f64 .own (ref-values γ-values c2-values) (sliceVal (b-values, o-values) (length values) ∷ [])) ∷ ‵ (MutSlice (named 14) κ-b f64 .own (ref-b γ-b c3-b) (sliceVal (b-b, o-b) (length b) ∷ [])) ∷ ‵ (flft κ-input-starts q-input-starts) ∷ ‵ (flft κ-input-rows q-input-rows) ∷ ‵ (flft κ-input-values q-input-values) ∷ ‵ (flft κ-list q-list) ∷ ‵ (flft κ-permutation q-permutation) ∷ ‵ (flft κ-firsts q-firsts) ∷ ‵ (flft κ-starts q-starts) ∷ ‵ (flft κ-groups q-groups) ∷ ‵ (flft κ-tasks q-tasks) ∷ ‵ (flft κ-top q-top) ∷ ‵ (flft κ-words q-words) ∷ ‵ (flft κ-floats q-floats) ∷ ‵ (flft κ-rows q-rows) ∷ ‵ (flft κ-values q-values) ∷ ‵ (flft κ-b q-b) ∷ ‵ (froom ty0 l0 0) ∷ ‵ (fat fullShare ty1 l1 0 (vint w64 n)) ∷ ‵ (fat fullShare ty2 l2 0 s-input-starts) ∷ ‵ (fat fullShare ty3 l3 0 s-input-rows) ∷ ‵ (fat fullShare ty4 l4 0 s-input-values) ∷ ‵ (fat fullShare ty5 l5 0 m-order) ∷ ‵ (fat fullShare ty6 l6 0 s-list) ∷ ‵ (fat fullShare ty7 l7 0 m-stop) ∷ ‵ (fat fullShare ty8 l8 0 s-permutation) ∷ ‵ (fat fullShare ty9 l9 0 s-firsts) ∷ ‵ (fat fullShare ty10 l10 0 s-starts) ∷ ‵ (fat fullShare ty11 l11 0 s-groups) ∷ ‵ (fat fullShare ty12 l12 0 s-tasks) ∷ ‵ (fat fullShare ty13 l13 0 s-top) ∷ ‵ (fat fullShare ty14 l14 0 s-words) ∷ ‵ (fat fullShare ty15 l15 0 s-floats) ∷ ‵ (fat fullShare ty16 l16 0 s-rows) ∷ ‵ (fat fullShare ty17 l17 0 s-values) ∷ ‵ (fat fullShare ty18 l18 0 s-b) ∷ ‵ (fat fullShare ty19 l19 0 r1) ∷ ‵ (Lies T-Update.the-row 16384 l20 0 c2-updates) ∷ ‵ (fat fullShare ty21 l21 0 r2) ∷ ‵ (froom ty44 l44 0) ∷ raw (Packed 𝓤 H A spare2) ∷ raw (Packed 𝓤 H A spare3) ∷ raw (Packed 𝓤 H A dying) ∷ []) (runs C Λ En body.t-43 (atRet En Post))
+      after3 : (u1 : Update) (r1 : Val) (is1 : Is T-Update.the-row u1 (r1 ∷ [])) (d1 : u1 ≡ noUpdate) (updates : List Update) (made-updates : updates ≡ replicate 16384 u1) (size-updates : length updates ≡ 16384) (u2 : Outcome) (r2 : Val) (is2 : Is T-Outcome.the-row u2 (r2 ∷ [])) (c2-permutation : List ℕ) (c2-firsts : List ℕ) (c2-starts : List ℕ) (c2-groups : List ℕ) (c2-tasks : List ℕ) (c2-top : List ℕ) (c2-words : List ℕ) (c2-floats : List Float) (c2-rows : List ℕ) (c2-updates : List Update) (c2-values : List Float) (d2 : Factors (matrix n (input-starts) (input-rows) (input-values)) 18446744073709551615 order («list») stop (record { permutation = length (permutation); firsts = length (firsts); starts = length (starts); groups = length (groups); tasks = length (tasks); top = length (top); words = length (words); floats = length (floats); rows = length (rows); updates = length (updates); values = length (values) }) (record { returned = u2; areas = record { permutation = c2-permutation; firsts = c2-firsts; starts = c2-starts; groups = c2-groups; tasks = c2-tasks; top = c2-top; words = c2-words; floats = c2-floats; rows = c2-rows; updates = c2-updates; values = c2-values } })) (same2-permutation : length c2-permutation ≡ length permutation) (same2-firsts : length c2-firsts ≡ length firsts) (same2-starts : length c2-starts ≡ length starts) (same2-groups : length c2-groups ≡ length groups) (same2-tasks : length c2-tasks ≡ length tasks) (same2-top : length c2-top ≡ length top) (same2-words : length c2-words ≡ length words) (same2-floats : length c2-floats ≡ length floats) (same2-rows : length c2-rows ≡ length rows) (same2-updates : length c2-updates ≡ length updates) (same2-values : length c2-values ≡ length values) (c3-words : List ℕ) (c3-floats : List Float) (c3-b : List Float) (same3-words : length c3-words ≡ length c2-words) (same3-floats : length c3-floats ≡ length c2-floats) (same3-b : length c3-b ≡ length b) → Sq W (‵ (ShrSlice (named 0) κ-input-starts usize .own (ref-input-starts γ-input-starts input-starts) (sliceVal (b-input-starts, o-input-starts) (length input-starts) ∷ [])) ∷ ‵ (ShrSlice (named 1) κ-input-rows usize .own (ref-input-rows γ-input-rows input-rows) (sliceVal (b-input-rows, o-input-rows) (length input-rows) ∷ [])) ∷ ‵ (ShrSlice (named 2) κ-input-values f64 .own (ref-input-values γ-input-values input-values) (sliceVal (b-input-values, o-input-values) (length input-values) ∷ [])) ∷ ‵ (ShrSlice (named 3) κ-list usize .own (ref-list γ-list «list») (sliceVal (b-list, o-list) (length «list») ∷ [])) ∷ ‵ (MutSlice (named 4) κ-permutation usize .own (ref-permutation γ-permutation c2-permutation) (sliceVal (b-permutation, o-permutation) (length permutation) ∷ [])) ∷ ‵ (MutSlice (named 5) κ-firsts usize .own (ref-firsts γ-firsts c2-firsts) (sliceVal (b-firsts, o-firsts) (length firsts) ∷ [])) ∷ ‵ (MutSlice (named 6) κ-starts usize .own (ref-starts γ-starts c2-starts) (sliceVal (b-starts, o-starts) (length starts) ∷ [])) ∷ ‵ (MutSlice (named 7) κ-groups usize .own (ref-groups γ-groups c2-groups) (sliceVal (b-groups, o-groups) (length groups) ∷ [])) ∷ ‵ (MutSlice (named 8) κ-tasks usize .own (ref-tasks γ-tasks c2-tasks) (sliceVal (b-tasks, o-tasks) (length tasks) ∷ [])) ∷ ‵ (MutSlice (named 9) κ-top usize .own (ref-top γ-top c2-top) (sliceVal (b-top, o-top) (length top) ∷ [])) ∷ ‵ (MutSlice (named 10) κ-words usize .own (ref-words γ-words c3-words) (sliceVal (b-words, o-words) (length words) ∷ [])) ∷ ‵ (MutSlice (named 11) κ-floats f64 .own (ref-floats γ-floats c3-floats) (sliceVal (b-floats, o-floats) (length floats) ∷ [])) ∷ ‵ (MutSlice (named 12) κ-rows usize .own (ref-rows γ-rows c2-rows) (sliceVal (b-rows, o-rows) (length rows) ∷ [])) ∷ ‵ (MutSlice (named 13) κ-values f64 .own (ref-values γ-values c2-values) (sliceVal (b-values, o-values) (length values) ∷ [])) ∷ ‵ (MutSlice (named 14) κ-b f64 .own (ref-b γ-b c3-b) (sliceVal (b-b, o-b) (length b) ∷ [])) ∷ ‵ (flft κ-input-starts q-input-starts) ∷ ‵ (flft κ-input-rows q-input-rows) ∷ ‵ (flft κ-input-values q-input-values) ∷ ‵ (flft κ-list q-list) ∷ ‵ (flft κ-permutation q-permutation) ∷ ‵ (flft κ-firsts q-firsts) ∷ ‵ (flft κ-starts q-starts) ∷ ‵ (flft κ-groups q-groups) ∷ ‵ (flft κ-tasks q-tasks) ∷ ‵ (flft κ-top q-top) ∷ ‵ (flft κ-words q-words) ∷ ‵ (flft κ-floats q-floats) ∷ ‵ (flft κ-rows q-rows) ∷ ‵ (flft κ-values q-values) ∷ ‵ (flft κ-b q-b) ∷ ‵ (froom ty0 l0 0) ∷ ‵ (fat fullShare ty1 l1 0 (vint w64 n)) ∷ ‵ (fat fullShare ty2 l2 0 s-input-starts) ∷ ‵ (fat fullShare ty3 l3 0 s-input-rows) ∷ ‵ (fat fullShare ty4 l4 0 s-input-values) ∷ ‵ (fat fullShare ty5 l5 0 m-order) ∷ ‵ (fat fullShare ty6 l6 0 s-list) ∷ ‵ (fat fullShare ty7 l7 0 m-stop) ∷ ‵ (fat fullShare ty8 l8 0 s-permutation) ∷ ‵ (fat fullShare ty9 l9 0 s-firsts) ∷ ‵ (fat fullShare ty10 l10 0 s-starts) ∷ ‵ (fat fullShare ty11 l11 0 s-groups) ∷ ‵ (fat fullShare ty12 l12 0 s-tasks) ∷ ‵ (fat fullShare ty13 l13 0 s-top) ∷ ‵ (fat fullShare ty14 l14 0 s-words) ∷ ‵ (fat fullShare ty15 l15 0 s-floats) ∷ ‵ (fat fullShare ty16 l16 0 s-rows) ∷ ‵ (fat fullShare ty17 l17 0 s-values) ∷ ‵ (fat fullShare ty18 l18 0 s-b) ∷ ‵ (fat fullShare ty19 l19 0 r1) ∷ ‵ (Lies T-Update.the-row 16384 l20 0 c2-updates) ∷ ‵ (fat fullShare ty21 l21 0 r2) ∷ ‵ (froom ty44 l44 0) ∷ raw (Packed 𝓤 H A spare2) ∷ raw (Packed 𝓤 H A spare3) ∷ raw (Packed 𝓤 H A dying) ∷ []) (runs C Λ En body.t-43 (atRet En Post))
       after3 u1 r1 is1 d1 updates made-updates size-updates u2 r2 is2 c2-permutation c2-firsts c2-starts c2-groups c2-tasks c2-top c2-words c2-floats c2-rows c2-updates c2-values d2 same2-permutation same2-firsts same2-starts same2-groups same2-tasks same2-top same2-words same2-floats same2-rows same2-updates same2-values c3-words c3-floats c3-b same3-words same3-floats same3-b =
           w-assigns ! (w-of-opd ! (w-unit-lit !)) (w-from ! (w-stop !)) (w-init ! 30 refl (tt, tt)) $
           w-returns ! (w-look ! 30 refl) $ w-forget ! 30 refl $ w-forget ! 31 refl $ w-forget ! 32 refl $ w-forget ! 33 refl $ w-forget ! 34 refl $ w-forget ! 35 refl $ w-forget ! 36 refl $ w-forget ! 37 refl $ w-forget ! 38 refl $ w-forget ! 39 refl $ w-forget ! 40 refl $ w-forget ! 41 refl $ w-forget ! 42 refl $ w-forget ! 43 refl $ w-forget ! 44 refl $ w-forget ! 45 refl $ w-forget ! 46 refl $ w-forget ! 47 refl $ w-forget ! 48 refl $ w-forget ! 49 refl $ w-move ! (50 ∷ []) $ use1 W (‵ (froom ty20 l20 0)) (array-dies 𝓤 H A W T-Update.the-row tt 16384 l20 0 c2-updates) $ w-forget ! 51 refl $
@@ -444,7 +443,7 @@ module _ {M : Type 1} (𝓤 : URA M) (H : Heap 𝓤) (A : Atoms 𝓤) (W : Given
           w-move ! (130 ∷ 0 ∷ 131 ∷ 1 ∷ 132 ∷ 2 ∷ 133 ∷ 3 ∷ 134 ∷ 4 ∷ 135 ∷ 5 ∷ 136 ∷ 6 ∷ 137 ∷ 7 ∷ 138 ∷ 8 ∷ 139 ∷ 9 ∷ 140 ∷ 10 ∷ 141 ∷ 11 ∷ 142 ∷ 12 ∷ 143 ∷ 13 ∷ 144 ∷ 14 ∷ 145 ∷ 15 ∷ 146 ∷ 16 ∷ 147 ∷ 17 ∷ 148 ∷ 18 ∷ 149 ∷ 19 ∷ 99 ∷ 20 ∷ 150 ∷ 21 ∷ 77 ∷ 22 ∷ 78 ∷ 23 ∷ 79 ∷ 24 ∷ 80 ∷ 25 ∷ 81 ∷ 26 ∷ 82 ∷ 27 ∷ 83 ∷ 28 ∷ 84 ∷ 29 ∷ 85 ∷ 30 ∷ 86 ∷ 31 ∷ 87 ∷ 32 ∷ 88 ∷ 33 ∷ 89 ∷ 34 ∷ 90 ∷ 35 ∷ 91 ∷ 36 ∷ 92 ∷ 37 ∷ 93 ∷ 38 ∷ 94 ∷ 39 ∷ 95 ∷ 40 ∷ 96 ∷ 41 ∷ 97 ∷ 42 ∷ 98 ∷ 43 ∷ 151 ∷ 44 ∷ 61 ∷ 45 ∷ 62 ∷ 46 ∷ 63 ∷ 47 ∷ 64 ∷ 48 ∷ 65 ∷ 49 ∷ 66 ∷ 50 ∷ 67 ∷ 51 ∷ 68 ∷ 52 ∷ 69 ∷ 53 ∷ 70 ∷ 54 ∷ 71 ∷ 55 ∷ 72 ∷ 56 ∷ 73 ∷ 57 ∷ 74 ∷ 58 ∷ 75 ∷ 59 ∷ 76 ∷ 60 ∷ []) $ w-homes-freed ! En $
           w-keep ! (15 ∷ 16 ∷ 17 ∷ 18 ∷ 19 ∷ 20 ∷ 21 ∷ 22 ∷ 23 ∷ 24 ∷ 25 ∷ 26 ∷ 27 ∷ 28 ∷ 29 ∷ 0 ∷ 1 ∷ 2 ∷ 3 ∷ 4 ∷ 5 ∷ 6 ∷ 7 ∷ 8 ∷ 9 ∷ 10 ∷ 11 ∷ 12 ∷ 13 ∷ 14 ∷ []) $ w-by ! (exits u1 r1 is1 d1 updates made-updates size-updates u2 r2 is2 c2-permutation c2-firsts c2-starts c2-groups c2-tasks c2-top c2-words c2-floats c2-rows c2-updates c2-values d2 same2-permutation same2-firsts same2-starts same2-groups same2-tasks same2-top same2-words same2-floats same2-rows same2-updates same2-values c3-words c3-floats c3-b same3-words same3-floats same3-b)
 
-      after2 : (u1 : Update) (r1 : Val) (is1 : Is T-Update.the-row u1 (r1 ∷ [])) (d1 : u1 ≡ noUpdate) (updates : List Update) (made-updates : updates ≡ replicate 16384 u1) (size-updates : length updates ≡ 16384) (u2 : Outcome) (r2 : Val) (is2 : Is T-Outcome.the-row u2 (r2 ∷ [])) (c2-permutation : List ℕ) (c2-firsts : List ℕ) (c2-starts : List ℕ) (c2-groups : List ℕ) (c2-tasks : List ℕ) (c2-top : List ℕ) (c2-words : List ℕ) (c2-floats : List Float) (c2-rows : List ℕ) (c2-updates : List Update) (c2-values : List Float) (d2 : FactorSettles (factor (matrix n (input-starts) (input-rows) (input-values)) 18446744073709551615 order («list») stop (lentAll (length (permutation)) (length (firsts)) (length (starts)) (length (groups)) (length (tasks)) (length (top)) (length (words)) (length (floats)) (length (rows)) (length (updates)) (length (values)))) u2 (c2-permutation) (c2-firsts) (c2-starts) (c2-groups) (c2-tasks) (c2-top) (c2-words) (c2-floats) (c2-rows) (c2-updates) (c2-values)) (same2-permutation : length c2-permutation ≡ length permutation) (same2-firsts : length c2-firsts ≡ length firsts) (same2-starts : length c2-starts ≡ length starts) (same2-groups : length c2-groups ≡ length groups) (same2-tasks : length c2-tasks ≡ length tasks) (same2-top : length c2-top ≡ length top) (same2-words : length c2-words ≡ length words) (same2-floats : length c2-floats ≡ length floats) (same2-rows : length c2-rows ≡ length rows) (same2-updates : length c2-updates ≡ length updates) (same2-values : length c2-values ≡ length values) → Sq W (‵ (ShrSlice (named 0) κ-input-starts usize .own (ref-input-starts γ-input-starts input-starts) (sliceVal (b-input-starts, o-input-starts) (length input-starts) ∷ [])) ∷ ‵ (ShrSlice (named 1) κ-input-rows usize .own (ref-input-rows γ-input-rows input-rows) (sliceVal (b-input-rows, o-input-rows) (length input-rows) ∷ [])) ∷ ‵ (ShrSlice (named 2) κ-input-values f64 .own (ref-input-values γ-input-values input-values) (sliceVal (b-input-values, o-input-values) (length input-values) ∷ [])) ∷ ‵ (ShrSlice (named 3) κ-list usize .own (ref-list γ-list «list») (sliceVal (b-list, o-list) (length «list») ∷ [])) ∷ ‵ (MutSlice (named 4) κ-permutation usize .own (ref-permutation γ-permutation c2-permutation) (sliceVal (b-permutation, o-permutation) (length permutation) ∷ [])) ∷ ‵ (MutSlice (named 5) κ-firsts usize .own (ref-firsts γ-firsts c2-firsts) (sliceVal (b-firsts, o-firsts) (length firsts) ∷ [])) ∷ ‵ (MutSlice (named 6) κ-starts usize .own (ref-starts γ-starts c2-starts) (sliceVal (b-starts, o-starts) (length starts) ∷ [])) ∷ ‵ (MutSlice (named 7) κ-groups usize .own (ref-groups γ-groups c2-groups) (sliceVal (b-groups, o-groups) (length groups) ∷ [])) ∷ ‵ (MutSlice (named 8) κ-tasks usize .own (ref-tasks γ-tasks c2-tasks) (sliceVal (b-tasks, o-tasks) (length tasks) ∷ [])) ∷ ‵ (MutSlice (named 9) κ-top usize .own (ref-top γ-top c2-top) (sliceVal (b-top, o-top) (length top) ∷ [])) ∷ ‵ (MutSlice (named 10) κ-words usize .own (ref-words γ-words c2-words) (sliceVal (b-words, o-words) (length words) ∷ [])) ∷ ‵ (MutSlice (named 11) κ-floats f64 .own (ref-floats γ-floats c2-floats) (sliceVal (b-floats, o-floats) (length floats) ∷ [])) ∷ ‵ (MutSlice (named 12) κ-rows usize .own (ref-rows γ-rows c2-rows) (sliceVal (b-rows, o-rows) (length rows) ∷ [])) ∷ ‵ (MutSlice (named 13) κ-values f64 .own (ref-values γ-values c2-values) (sliceVal (b-values, o-values) (length values) ∷ [])) ∷ ‵ (MutSlice (named 14) κ-b f64 .own (ref-b γ-b b) (sliceVal (b-b, o-b) (length b) ∷ [])) ∷ ‵ (flft κ-input-starts q-input-starts) ∷ ‵ (flft κ-input-rows q-input-rows) ∷ ‵ (flft κ-input-values q-input-values) ∷ ‵ (flft κ-list q-list) ∷ ‵ (flft κ-permutation q-permutation) ∷ ‵ (flft κ-firsts q-firsts) ∷ ‵ (flft κ-starts q-starts) ∷ ‵ (flft κ-groups q-groups) ∷ ‵ (flft κ-tasks q-tasks) ∷ ‵ (flft κ-top q-top) ∷ ‵ (flft κ-words q-words) ∷ ‵ (flft κ-floats q-floats) ∷ ‵ (flft κ-rows q-rows) ∷ ‵ (flft κ-values q-values) ∷ ‵ (flft κ-b q-b) ∷ ‵ (froom ty0 l0 0) ∷ ‵ (fat fullShare ty1 l1 0 (vint w64 n)) ∷ ‵ (fat fullShare ty2 l2 0 s-input-starts) ∷ ‵ (fat fullShare ty3 l3 0 s-input-rows) ∷ ‵ (fat fullShare ty4 l4 0 s-input-values) ∷ ‵ (fat fullShare ty5 l5 0 m-order) ∷ ‵ (fat fullShare ty6 l6 0 s-list) ∷ ‵ (fat fullShare ty7 l7 0 m-stop) ∷ ‵ (fat fullShare ty8 l8 0 s-permutation) ∷ ‵ (fat fullShare ty9 l9 0 s-firsts) ∷ ‵ (fat fullShare ty10 l10 0 s-starts) ∷ ‵ (fat fullShare ty11 l11 0 s-groups) ∷ ‵ (fat fullShare ty12 l12 0 s-tasks) ∷ ‵ (fat fullShare ty13 l13 0 s-top) ∷ ‵ (fat fullShare ty14 l14 0 s-words) ∷ ‵ (fat fullShare ty15 l15 0 s-floats) ∷ ‵ (fat fullShare ty16 l16 0 s-rows) ∷ ‵ (fat fullShare ty17 l17 0 s-values) ∷ ‵ (fat fullShare ty18 l18 0 s-b) ∷ ‵ (fat fullShare ty19 l19 0 r1) ∷ ‵ (Lies T-Update.the-row 16384 l20 0 c2-updates) ∷ ‵ (fat fullShare ty21 l21 0 r2) ∷ ‵ (froom ty44 l44 0) ∷ raw (Packed 𝓤 H A spare2) ∷ raw (Packed 𝓤 H A spare3) ∷ raw (Packed 𝓤 H A dying) ∷ []) (runs C Λ En body.t-26 (atRet En Post))
+      after2 : (u1 : Update) (r1 : Val) (is1 : Is T-Update.the-row u1 (r1 ∷ [])) (d1 : u1 ≡ noUpdate) (updates : List Update) (made-updates : updates ≡ replicate 16384 u1) (size-updates : length updates ≡ 16384) (u2 : Outcome) (r2 : Val) (is2 : Is T-Outcome.the-row u2 (r2 ∷ [])) (c2-permutation : List ℕ) (c2-firsts : List ℕ) (c2-starts : List ℕ) (c2-groups : List ℕ) (c2-tasks : List ℕ) (c2-top : List ℕ) (c2-words : List ℕ) (c2-floats : List Float) (c2-rows : List ℕ) (c2-updates : List Update) (c2-values : List Float) (d2 : Factors (matrix n (input-starts) (input-rows) (input-values)) 18446744073709551615 order («list») stop (record { permutation = length (permutation); firsts = length (firsts); starts = length (starts); groups = length (groups); tasks = length (tasks); top = length (top); words = length (words); floats = length (floats); rows = length (rows); updates = length (updates); values = length (values) }) (record { returned = u2; areas = record { permutation = c2-permutation; firsts = c2-firsts; starts = c2-starts; groups = c2-groups; tasks = c2-tasks; top = c2-top; words = c2-words; floats = c2-floats; rows = c2-rows; updates = c2-updates; values = c2-values } })) (same2-permutation : length c2-permutation ≡ length permutation) (same2-firsts : length c2-firsts ≡ length firsts) (same2-starts : length c2-starts ≡ length starts) (same2-groups : length c2-groups ≡ length groups) (same2-tasks : length c2-tasks ≡ length tasks) (same2-top : length c2-top ≡ length top) (same2-words : length c2-words ≡ length words) (same2-floats : length c2-floats ≡ length floats) (same2-rows : length c2-rows ≡ length rows) (same2-updates : length c2-updates ≡ length updates) (same2-values : length c2-values ≡ length values) → Sq W (‵ (ShrSlice (named 0) κ-input-starts usize .own (ref-input-starts γ-input-starts input-starts) (sliceVal (b-input-starts, o-input-starts) (length input-starts) ∷ [])) ∷ ‵ (ShrSlice (named 1) κ-input-rows usize .own (ref-input-rows γ-input-rows input-rows) (sliceVal (b-input-rows, o-input-rows) (length input-rows) ∷ [])) ∷ ‵ (ShrSlice (named 2) κ-input-values f64 .own (ref-input-values γ-input-values input-values) (sliceVal (b-input-values, o-input-values) (length input-values) ∷ [])) ∷ ‵ (ShrSlice (named 3) κ-list usize .own (ref-list γ-list «list») (sliceVal (b-list, o-list) (length «list») ∷ [])) ∷ ‵ (MutSlice (named 4) κ-permutation usize .own (ref-permutation γ-permutation c2-permutation) (sliceVal (b-permutation, o-permutation) (length permutation) ∷ [])) ∷ ‵ (MutSlice (named 5) κ-firsts usize .own (ref-firsts γ-firsts c2-firsts) (sliceVal (b-firsts, o-firsts) (length firsts) ∷ [])) ∷ ‵ (MutSlice (named 6) κ-starts usize .own (ref-starts γ-starts c2-starts) (sliceVal (b-starts, o-starts) (length starts) ∷ [])) ∷ ‵ (MutSlice (named 7) κ-groups usize .own (ref-groups γ-groups c2-groups) (sliceVal (b-groups, o-groups) (length groups) ∷ [])) ∷ ‵ (MutSlice (named 8) κ-tasks usize .own (ref-tasks γ-tasks c2-tasks) (sliceVal (b-tasks, o-tasks) (length tasks) ∷ [])) ∷ ‵ (MutSlice (named 9) κ-top usize .own (ref-top γ-top c2-top) (sliceVal (b-top, o-top) (length top) ∷ [])) ∷ ‵ (MutSlice (named 10) κ-words usize .own (ref-words γ-words c2-words) (sliceVal (b-words, o-words) (length words) ∷ [])) ∷ ‵ (MutSlice (named 11) κ-floats f64 .own (ref-floats γ-floats c2-floats) (sliceVal (b-floats, o-floats) (length floats) ∷ [])) ∷ ‵ (MutSlice (named 12) κ-rows usize .own (ref-rows γ-rows c2-rows) (sliceVal (b-rows, o-rows) (length rows) ∷ [])) ∷ ‵ (MutSlice (named 13) κ-values f64 .own (ref-values γ-values c2-values) (sliceVal (b-values, o-values) (length values) ∷ [])) ∷ ‵ (MutSlice (named 14) κ-b f64 .own (ref-b γ-b b) (sliceVal (b-b, o-b) (length b) ∷ [])) ∷ ‵ (flft κ-input-starts q-input-starts) ∷ ‵ (flft κ-input-rows q-input-rows) ∷ ‵ (flft κ-input-values q-input-values) ∷ ‵ (flft κ-list q-list) ∷ ‵ (flft κ-permutation q-permutation) ∷ ‵ (flft κ-firsts q-firsts) ∷ ‵ (flft κ-starts q-starts) ∷ ‵ (flft κ-groups q-groups) ∷ ‵ (flft κ-tasks q-tasks) ∷ ‵ (flft κ-top q-top) ∷ ‵ (flft κ-words q-words) ∷ ‵ (flft κ-floats q-floats) ∷ ‵ (flft κ-rows q-rows) ∷ ‵ (flft κ-values q-values) ∷ ‵ (flft κ-b q-b) ∷ ‵ (froom ty0 l0 0) ∷ ‵ (fat fullShare ty1 l1 0 (vint w64 n)) ∷ ‵ (fat fullShare ty2 l2 0 s-input-starts) ∷ ‵ (fat fullShare ty3 l3 0 s-input-rows) ∷ ‵ (fat fullShare ty4 l4 0 s-input-values) ∷ ‵ (fat fullShare ty5 l5 0 m-order) ∷ ‵ (fat fullShare ty6 l6 0 s-list) ∷ ‵ (fat fullShare ty7 l7 0 m-stop) ∷ ‵ (fat fullShare ty8 l8 0 s-permutation) ∷ ‵ (fat fullShare ty9 l9 0 s-firsts) ∷ ‵ (fat fullShare ty10 l10 0 s-starts) ∷ ‵ (fat fullShare ty11 l11 0 s-groups) ∷ ‵ (fat fullShare ty12 l12 0 s-tasks) ∷ ‵ (fat fullShare ty13 l13 0 s-top) ∷ ‵ (fat fullShare ty14 l14 0 s-words) ∷ ‵ (fat fullShare ty15 l15 0 s-floats) ∷ ‵ (fat fullShare ty16 l16 0 s-rows) ∷ ‵ (fat fullShare ty17 l17 0 s-values) ∷ ‵ (fat fullShare ty18 l18 0 s-b) ∷ ‵ (fat fullShare ty19 l19 0 r1) ∷ ‵ (Lies T-Update.the-row 16384 l20 0 c2-updates) ∷ ‵ (fat fullShare ty21 l21 0 r2) ∷ ‵ (froom ty44 l44 0) ∷ raw (Packed 𝓤 H A spare2) ∷ raw (Packed 𝓤 H A spare3) ∷ raw (Packed 𝓤 H A dying) ∷ []) (runs C Λ En body.t-26 (atRet En Post))
       after2 u1 r1 is1 d1 updates made-updates size-updates u2 r2 is2 c2-permutation c2-firsts c2-starts c2-groups c2-tasks c2-top c2-words c2-floats c2-rows c2-updates c2-values d2 same2-permutation same2-firsts same2-starts same2-groups same2-tasks same2-top same2-words same2-floats same2-rows same2-updates same2-values =
           w-move ! (54 ∷ []) $ w-unpack ! (‵ (froom ty45 l45 0) ∷ ‵ (froom ty46 l46 0) ∷ ‵ (froom ty47 l47 0) ∷ ‵ (froom ty48 l48 0) ∷ ‵ (froom ty49 l49 0) ∷ ‵ (froom ty50 l50 0) ∷ ‵ (froom ty51 l51 0) ∷ ‵ (froom ty52 l52 0) ∷ ‵ (froom ty53 l53 0) ∷ ‵ (froom ty54 l54 0) ∷ ‵ (froom ty55 l55 0) ∷ ‵ (froom ty56 l56 0) ∷ ‵ (froom ty57 l57 0) ∷ ‵ (froom ty58 l58 0) ∷ ‵ (froom ty59 l59 0) ∷ ‵ (froom ty60 l60 0) ∷ []) $
           w-move ! (16 ∷ 17 ∷ 18 ∷ 19 ∷ 23 ∷ 24 ∷ 25 ∷ 31 ∷ 32 ∷ 33 ∷ 34 ∷ 38 ∷ 39 ∷ 40 ∷ 48 ∷ 49 ∷ 50 ∷ 51 ∷ 52 ∷ 53 ∷ 57 ∷ 58 ∷ 59 ∷ 65 ∷ 66 ∷ 69 ∷ 70 ∷ []) $ w-pack ! (‵ (ShrSlice (named 0) κ-input-starts usize .own (ref-input-starts γ-input-starts input-starts) (sliceVal (b-input-starts, o-input-starts) (length input-starts) ∷ [])) ∷ ‵ (ShrSlice (named 1) κ-input-rows usize .own (ref-input-rows γ-input-rows input-rows) (sliceVal (b-input-rows, o-input-rows) (length input-rows) ∷ [])) ∷ ‵ (ShrSlice (named 2) κ-input-values f64 .own (ref-input-values γ-input-values input-values) (sliceVal (b-input-values, o-input-values) (length input-values) ∷ [])) ∷ ‵ (ShrSlice (named 3) κ-list usize .own (ref-list γ-list «list») (sliceVal (b-list, o-list) (length «list») ∷ [])) ∷ ‵ (MutSlice (named 7) κ-groups usize .own (ref-groups γ-groups c2-groups) (sliceVal (b-groups, o-groups) (length groups) ∷ [])) ∷ ‵ (MutSlice (named 8) κ-tasks usize .own (ref-tasks γ-tasks c2-tasks) (sliceVal (b-tasks, o-tasks) (length tasks) ∷ [])) ∷ ‵ (MutSlice (named 9) κ-top usize .own (ref-top γ-top c2-top) (sliceVal (b-top, o-top) (length top) ∷ [])) ∷ ‵ (flft κ-input-starts q-input-starts) ∷ ‵ (flft κ-input-rows q-input-rows) ∷ ‵ (flft κ-input-values q-input-values) ∷ ‵ (flft κ-list q-list) ∷ ‵ (flft κ-groups q-groups) ∷ ‵ (flft κ-tasks q-tasks) ∷ ‵ (flft κ-top q-top) ∷ ‵ (fat fullShare ty2 l2 0 s-input-starts) ∷ ‵ (fat fullShare ty3 l3 0 s-input-rows) ∷ ‵ (fat fullShare ty4 l4 0 s-input-values) ∷ ‵ (fat fullShare ty5 l5 0 m-order) ∷ ‵ (fat fullShare ty6 l6 0 s-list) ∷ ‵ (fat fullShare ty7 l7 0 m-stop) ∷ ‵ (fat fullShare ty11 l11 0 s-groups) ∷ ‵ (fat fullShare ty12 l12 0 s-tasks) ∷ ‵ (fat fullShare ty13 l13 0 s-top) ∷ ‵ (fat fullShare ty19 l19 0 r1) ∷ ‵ (Lies T-Update.the-row 16384 l20 0 c2-updates) ∷ raw (Packed 𝓤 H A spare2) ∷ raw (Packed 𝓤 H A dying) ∷ []) $
@@ -531,7 +530,7 @@ module _ {M : Type 1} (𝓤 : URA M) (H : Heap 𝓤) (A : Atoms 𝓤) (W : Given
           use2 W (raw (C-factor 𝓤 H A mem run .pre (((κ-input-starts, (κ-input-rows, (κ-input-values, (κ-list, (ν2-8 ∷ [], (ν2-9 ∷ [], (ν2-10 ∷ [], (ν2-11 ∷ [], (ν2-12 ∷ [], (ν2-13 ∷ [], (ν2-14 ∷ [], (ν2-15 ∷ [], (ν2-16 ∷ [], (ν2-17 ∷ [], (ν2-18 ∷ [], tt))))))))))))))), (q-input-starts, (q-input-rows, (q-input-values, (q-list, (fullShare, (fullShare, (fullShare, (fullShare, (fullShare, (fullShare, (fullShare, (fullShare, (fullShare, (fullShare, (fullShare, tt))))))))))))))), tt, (n, (ref-input-starts γ-input-starts input-starts, (ref-input-rows γ-input-rows input-rows, (ref-input-values γ-input-values input-values, (18446744073709551615, (order, (ref-list γ-list «list», (stop, (ref-permutation δ2-8 permutation, (ref-firsts δ2-9 firsts, (ref-starts δ2-10 starts, (ref-groups δ2-11 groups, (ref-tasks δ2-12 tasks, (ref-top δ2-13 top, (ref-words δ2-14 words, (ref-floats δ2-15 floats, (ref-rows δ2-16 rows, (ref-updates l20 δ2-17 updates, (ref-values δ2-18 values, tt))))))))))))))))))), (vint w64 n ∷ [], (s-input-starts ∷ [], (s-input-rows ∷ [], (s-input-values ∷ [], (vint w64 18446744073709551615 ∷ [], (m-order ∷ [], (s-list ∷ [], (m-stop ∷ [], (s-permutation ∷ [], (s-firsts ∷ [], (s-starts ∷ [], (s-groups ∷ [], (s-tasks ∷ [], (s-top ∷ [], (s-words ∷ [], (s-floats ∷ [], (s-rows ∷ [], (sliceVal (l20, 0) (length updates) ∷ [], (s-values ∷ [], tt)))))))))))))))))))), tt))) (asked2 u1 r1 is1 d1 updates made-updates size-updates l20 ν2-8 δ2-8 ν2-9 δ2-9 ν2-10 δ2-10 ν2-11 δ2-11 ν2-12 δ2-12 ν2-13 δ2-13 ν2-14 δ2-14 ν2-15 δ2-15 ν2-16 δ2-16 ν2-17 δ2-17 ν2-18 δ2-18) $
           w-calls-at ! fm (C-factor 𝓤 H A mem run) known-factor (((κ-input-starts, (κ-input-rows, (κ-input-values, (κ-list, (ν2-8 ∷ [], (ν2-9 ∷ [], (ν2-10 ∷ [], (ν2-11 ∷ [], (ν2-12 ∷ [], (ν2-13 ∷ [], (ν2-14 ∷ [], (ν2-15 ∷ [], (ν2-16 ∷ [], (ν2-17 ∷ [], (ν2-18 ∷ [], tt))))))))))))))), (q-input-starts, (q-input-rows, (q-input-values, (q-list, (fullShare, (fullShare, (fullShare, (fullShare, (fullShare, (fullShare, (fullShare, (fullShare, (fullShare, (fullShare, (fullShare, tt))))))))))))))), tt, (n, (ref-input-starts γ-input-starts input-starts, (ref-input-rows γ-input-rows input-rows, (ref-input-values γ-input-values input-values, (18446744073709551615, (order, (ref-list γ-list «list», (stop, (ref-permutation δ2-8 permutation, (ref-firsts δ2-9 firsts, (ref-starts δ2-10 starts, (ref-groups δ2-11 groups, (ref-tasks δ2-12 tasks, (ref-top δ2-13 top, (ref-words δ2-14 words, (ref-floats δ2-15 floats, (ref-rows δ2-16 rows, (ref-updates l20 δ2-17 updates, (ref-values δ2-18 values, tt))))))))))))))))))), (vint w64 n ∷ [], (s-input-starts ∷ [], (s-input-rows ∷ [], (s-input-values ∷ [], (vint w64 18446744073709551615 ∷ [], (m-order ∷ [], (s-list ∷ [], (m-stop ∷ [], (s-permutation ∷ [], (s-firsts ∷ [], (s-starts ∷ [], (s-groups ∷ [], (s-tasks ∷ [], (s-top ∷ [], (s-words ∷ [], (s-floats ∷ [], (s-rows ∷ [], (sliceVal (l20, 0) (length updates) ∷ [], (s-values ∷ [], tt)))))))))))))))))))), tt) (w-and-then ! (w-load ! (w-from ! (w-stop !)) (w-look ! 40 refl)) (w-and-then ! (w-load ! (w-from ! (w-stop !)) (w-look ! 41 refl)) (w-and-then ! (w-load ! (w-from ! (w-stop !)) (w-look ! 42 refl)) (w-and-then ! (w-load ! (w-from ! (w-stop !)) (w-look ! 43 refl)) (w-and-then ! (w-neg-lit ! tt) (w-and-then ! (w-load ! (w-from ! (w-stop !)) (w-look ! 44 refl)) (w-and-then ! (w-load ! (w-from ! (w-stop !)) (w-look ! 45 refl)) (w-and-then ! (w-load ! (w-from ! (w-stop !)) (w-look ! 46 refl)) (w-and-then ! (w-load ! (w-from ! (w-stop !)) (w-look ! 18 refl)) (w-and-then ! (w-load ! (w-from ! (w-stop !)) (w-look ! 20 refl)) (w-and-then ! (w-load ! (w-from ! (w-stop !)) (w-look ! 22 refl)) (w-and-then ! (w-load ! (w-from ! (w-stop !)) (w-look ! 24 refl)) (w-and-then ! (w-load ! (w-from ! (w-stop !)) (w-look ! 26 refl)) (w-and-then ! (w-load ! (w-from ! (w-stop !)) (w-look ! 28 refl)) (w-and-then ! (w-load ! (w-from ! (w-stop !)) (w-look ! 30 refl)) (w-and-then ! (w-load ! (w-from ! (w-stop !)) (w-look ! 32 refl)) (w-and-then ! (w-load ! (w-from ! (w-stop !)) (w-look ! 34 refl)) (w-and-then ! (w-load ! (w-from ! (w-stop !)) (w-look ! 36 refl)) (w-and-then ! (w-load ! (w-from ! (w-stop !)) (w-look ! 38 refl)) (w-no-more !)))))))))))))))))))) (λ r2.
           use1 W (later (some (λ (u′ : Outcome). ((‵ (flft (κ-input-starts) q-input-starts) ⊛ ‵ (flft (κ-input-rows) q-input-rows) ⊛ ‵ (flft (κ-input-values) q-input-values) ⊛ ‵ (flft (κ-list) q-list) ⊛ ‵ (flft (ν2-8 ∷ []) fullShare) ⊛ ‵ (flft (ν2-9 ∷ []) fullShare) ⊛ ‵ (flft (ν2-10 ∷ []) fullShare) ⊛ ‵ (flft (ν2-11 ∷ []) fullShare) ⊛ ‵ (flft (ν2-12 ∷ []) fullShare) ⊛ ‵ (flft (ν2-13 ∷ []) fullShare) ⊛ ‵ (flft (ν2-14 ∷ []) fullShare) ⊛ ‵ (flft (ν2-15 ∷ []) fullShare) ⊛ ‵ (flft (ν2-16 ∷ []) fullShare) ⊛ ‵ (flft (ν2-17 ∷ []) fullShare) ⊛ ‵ (flft (ν2-18 ∷ []) fullShare) ⊛ ‵ ftrue) ⊛ ‵ (T-Outcome.the-row .own u′ (r2 ∷ []))) ⊛ raw (ensured 𝓤 H A f-factor.ended (f-factor.clauses 𝓤 H A mem run) (κ-input-starts, (κ-input-rows, (κ-input-values, (κ-list, (ν2-8 ∷ [], (ν2-9 ∷ [], (ν2-10 ∷ [], (ν2-11 ∷ [], (ν2-12 ∷ [], (ν2-13 ∷ [], (ν2-14 ∷ [], (ν2-15 ∷ [], (ν2-16 ∷ [], (ν2-17 ∷ [], (ν2-18 ∷ [], tt))))))))))))))) (n, (ref-input-starts γ-input-starts input-starts, (ref-input-rows γ-input-rows input-rows, (ref-input-values γ-input-values input-values, (18446744073709551615, (order, (ref-list γ-list «list», (stop, (ref-permutation δ2-8 permutation, (ref-firsts δ2-9 firsts, (ref-starts δ2-10 starts, (ref-groups δ2-11 groups, (ref-tasks δ2-12 tasks, (ref-top δ2-13 top, (ref-words δ2-14 words, (ref-floats δ2-15 floats, (ref-rows δ2-16 rows, (ref-updates l20 δ2-17 updates, (ref-values δ2-18 values, tt))))))))))))))))))) tt u′)))) (id⊢ 𝓤 _) $ w-await ! tt $ w-pick ! (λ u2.
-          w-split ! $ w-move ! (1 ∷ []) $ use1 W (some (λ (zs2 : Unit {0} × (Unit {0} × (Unit {0} × (Unit {0} × (Unit {0} × (Unit {0} × (Unit {0} × (Unit {0} × (List ℕ × (List ℕ × (List ℕ × (List ℕ × (List ℕ × (List ℕ × (List ℕ × (List Float × (List ℕ × (List Update × (List Float × Unit {0}))))))))))))))))))). ‵ (lasts f-factor.ended (κ-input-starts, (κ-input-rows, (κ-input-values, (κ-list, (ν2-8 ∷ [], (ν2-9 ∷ [], (ν2-10 ∷ [], (ν2-11 ∷ [], (ν2-12 ∷ [], (ν2-13 ∷ [], (ν2-14 ∷ [], (ν2-15 ∷ [], (ν2-16 ∷ [], (ν2-17 ∷ [], (ν2-18 ∷ [], tt))))))))))))))) (n, (ref-input-starts γ-input-starts input-starts, (ref-input-rows γ-input-rows input-rows, (ref-input-values γ-input-values input-values, (18446744073709551615, (order, (ref-list γ-list «list», (stop, (ref-permutation δ2-8 permutation, (ref-firsts δ2-9 firsts, (ref-starts δ2-10 starts, (ref-groups δ2-11 groups, (ref-tasks δ2-12 tasks, (ref-top δ2-13 top, (ref-words δ2-14 words, (ref-floats δ2-15 floats, (ref-rows δ2-16 rows, (ref-updates l20 δ2-17 updates, (ref-values δ2-18 values, tt))))))))))))))))))) zs2) ⊛ raw (fact 𝓤 (FactorSettles (factor (matrix n (input-starts) (input-rows) (input-values)) 18446744073709551615 order («list») stop (lentAll (length (permutation)) (length (firsts)) (length (starts)) (length (groups)) (length (tasks)) (length (top)) (length (words)) (length (floats)) (length (rows)) (length (updates)) (length (values)))) u2 ((zs2 .1 .1 .1 .1 .1 .1 .1 .1 .0)) ((zs2 .1 .1 .1 .1 .1 .1 .1 .1 .1 .0)) ((zs2 .1 .1 .1 .1 .1 .1 .1 .1 .1 .1 .0)) ((zs2 .1 .1 .1 .1 .1 .1 .1 .1 .1 .1 .1 .0)) ((zs2 .1 .1 .1 .1 .1 .1 .1 .1 .1 .1 .1 .1 .0)) ((zs2 .1 .1 .1 .1 .1 .1 .1 .1 .1 .1 .1 .1 .1 .0)) ((zs2 .1 .1 .1 .1 .1 .1 .1 .1 .1 .1 .1 .1 .1 .1 .0)) ((zs2 .1 .1 .1 .1 .1 .1 .1 .1 .1 .1 .1 .1 .1 .1 .1 .0)) ((zs2 .1 .1 .1 .1 .1 .1 .1 .1 .1 .1 .1 .1 .1 .1 .1 .1 .0)) ((zs2 .1 .1 .1 .1 .1 .1 .1 .1 .1 .1 .1 .1 .1 .1 .1 .1 .1 .0)) ((zs2 .1 .1 .1 .1 .1 .1 .1 .1 .1 .1 .1 .1 .1 .1 .1 .1 .1 .1 .0)))))) (id⊢ 𝓤 _) $ w-pick ! (λ zs2. w-split ! $ w-move ! (1 ∷ []) $ w-heard ! (FactorSettles (factor (matrix n (input-starts) (input-rows) (input-values)) 18446744073709551615 order («list») stop (lentAll (length (permutation)) (length (firsts)) (length (starts)) (length (groups)) (length (tasks)) (length (top)) (length (words)) (length (floats)) (length (rows)) (length (updates)) (length (values)))) u2 ((zs2 .1 .1 .1 .1 .1 .1 .1 .1 .0)) ((zs2 .1 .1 .1 .1 .1 .1 .1 .1 .1 .0)) ((zs2 .1 .1 .1 .1 .1 .1 .1 .1 .1 .1 .0)) ((zs2 .1 .1 .1 .1 .1 .1 .1 .1 .1 .1 .1 .0)) ((zs2 .1 .1 .1 .1 .1 .1 .1 .1 .1 .1 .1 .1 .0)) ((zs2 .1 .1 .1 .1 .1 .1 .1 .1 .1 .1 .1 .1 .1 .0)) ((zs2 .1 .1 .1 .1 .1 .1 .1 .1 .1 .1 .1 .1 .1 .1 .0)) ((zs2 .1 .1 .1 .1 .1 .1 .1 .1 .1 .1 .1 .1 .1 .1 .1 .0)) ((zs2 .1 .1 .1 .1 .1 .1 .1 .1 .1 .1 .1 .1 .1 .1 .1 .1 .0)) ((zs2 .1 .1 .1 .1 .1 .1 .1 .1 .1 .1 .1 .1 .1 .1 .1 .1 .1 .0)) ((zs2 .1 .1 .1 .1 .1 .1 .1 .1 .1 .1 .1 .1 .1 .1 .1 .1 .1 .1 .0))) (λ d2.
+          w-split ! $ w-move ! (1 ∷ []) $ use1 W (some (λ (zs2 : Unit {0} × (Unit {0} × (Unit {0} × (Unit {0} × (Unit {0} × (Unit {0} × (Unit {0} × (Unit {0} × (List ℕ × (List ℕ × (List ℕ × (List ℕ × (List ℕ × (List ℕ × (List ℕ × (List Float × (List ℕ × (List Update × (List Float × Unit {0}))))))))))))))))))). ‵ (lasts f-factor.ended (κ-input-starts, (κ-input-rows, (κ-input-values, (κ-list, (ν2-8 ∷ [], (ν2-9 ∷ [], (ν2-10 ∷ [], (ν2-11 ∷ [], (ν2-12 ∷ [], (ν2-13 ∷ [], (ν2-14 ∷ [], (ν2-15 ∷ [], (ν2-16 ∷ [], (ν2-17 ∷ [], (ν2-18 ∷ [], tt))))))))))))))) (n, (ref-input-starts γ-input-starts input-starts, (ref-input-rows γ-input-rows input-rows, (ref-input-values γ-input-values input-values, (18446744073709551615, (order, (ref-list γ-list «list», (stop, (ref-permutation δ2-8 permutation, (ref-firsts δ2-9 firsts, (ref-starts δ2-10 starts, (ref-groups δ2-11 groups, (ref-tasks δ2-12 tasks, (ref-top δ2-13 top, (ref-words δ2-14 words, (ref-floats δ2-15 floats, (ref-rows δ2-16 rows, (ref-updates l20 δ2-17 updates, (ref-values δ2-18 values, tt))))))))))))))))))) zs2) ⊛ raw (fact 𝓤 (Factors (matrix n (input-starts) (input-rows) (input-values)) 18446744073709551615 order («list») stop (record { permutation = length (permutation); firsts = length (firsts); starts = length (starts); groups = length (groups); tasks = length (tasks); top = length (top); words = length (words); floats = length (floats); rows = length (rows); updates = length (updates); values = length (values) }) (record { returned = u2; areas = record { permutation = (zs2 .1 .1 .1 .1 .1 .1 .1 .1 .0); firsts = (zs2 .1 .1 .1 .1 .1 .1 .1 .1 .1 .0); starts = (zs2 .1 .1 .1 .1 .1 .1 .1 .1 .1 .1 .0); groups = (zs2 .1 .1 .1 .1 .1 .1 .1 .1 .1 .1 .1 .0); tasks = (zs2 .1 .1 .1 .1 .1 .1 .1 .1 .1 .1 .1 .1 .0); top = (zs2 .1 .1 .1 .1 .1 .1 .1 .1 .1 .1 .1 .1 .1 .0); words = (zs2 .1 .1 .1 .1 .1 .1 .1 .1 .1 .1 .1 .1 .1 .1 .0); floats = (zs2 .1 .1 .1 .1 .1 .1 .1 .1 .1 .1 .1 .1 .1 .1 .1 .0); rows = (zs2 .1 .1 .1 .1 .1 .1 .1 .1 .1 .1 .1 .1 .1 .1 .1 .1 .0); updates = (zs2 .1 .1 .1 .1 .1 .1 .1 .1 .1 .1 .1 .1 .1 .1 .1 .1 .1 .0); values = (zs2 .1 .1 .1 .1 .1 .1 .1 .1 .1 .1 .1 .1 .1 .1 .1 .1 .1 .1 .0) } }))))) (id⊢ 𝓤 _) $ w-pick ! (λ zs2. w-split ! $ w-move ! (1 ∷ []) $ w-heard ! (Factors (matrix n (input-starts) (input-rows) (input-values)) 18446744073709551615 order («list») stop (record { permutation = length (permutation); firsts = length (firsts); starts = length (starts); groups = length (groups); tasks = length (tasks); top = length (top); words = length (words); floats = length (floats); rows = length (rows); updates = length (updates); values = length (values) }) (record { returned = u2; areas = record { permutation = (zs2 .1 .1 .1 .1 .1 .1 .1 .1 .0); firsts = (zs2 .1 .1 .1 .1 .1 .1 .1 .1 .1 .0); starts = (zs2 .1 .1 .1 .1 .1 .1 .1 .1 .1 .1 .0); groups = (zs2 .1 .1 .1 .1 .1 .1 .1 .1 .1 .1 .1 .0); tasks = (zs2 .1 .1 .1 .1 .1 .1 .1 .1 .1 .1 .1 .1 .0); top = (zs2 .1 .1 .1 .1 .1 .1 .1 .1 .1 .1 .1 .1 .1 .0); words = (zs2 .1 .1 .1 .1 .1 .1 .1 .1 .1 .1 .1 .1 .1 .1 .0); floats = (zs2 .1 .1 .1 .1 .1 .1 .1 .1 .1 .1 .1 .1 .1 .1 .1 .0); rows = (zs2 .1 .1 .1 .1 .1 .1 .1 .1 .1 .1 .1 .1 .1 .1 .1 .1 .0); updates = (zs2 .1 .1 .1 .1 .1 .1 .1 .1 .1 .1 .1 .1 .1 .1 .1 .1 .1 .0); values = (zs2 .1 .1 .1 .1 .1 .1 .1 .1 .1 .1 .1 .1 .1 .1 .1 .1 .1 .1 .0) } })) (λ d2.
           w-past ! $ w-past ! $ w-past ! $ w-past ! $ w-past ! $ w-past ! $ w-past ! $ w-past ! $ w-last ! (λ same2-permutation. w-move ! (1 ∷ []) $ w-last ! (λ same2-firsts. w-move ! (1 ∷ []) $ w-last ! (λ same2-starts. w-move ! (1 ∷ []) $ w-last ! (λ same2-groups. w-move ! (1 ∷ []) $ w-last ! (λ same2-tasks. w-move ! (1 ∷ []) $ w-last ! (λ same2-top. w-move ! (1 ∷ []) $ w-last ! (λ same2-words. w-move ! (1 ∷ []) $ w-last ! (λ same2-floats. w-move ! (1 ∷ []) $ w-last ! (λ same2-rows. w-move ! (1 ∷ []) $ w-last ! (λ same2-updates. w-move ! (1 ∷ []) $ w-last ! (λ same2-values. w-move ! (1 ∷ []) $ w-drop ! $
           w-move ! (11 ∷ []) $ w-split ! $ w-move ! (1 ∷ []) $ w-peeks ! T-Outcome.the-row (Is T-Outcome.the-row) (shows 𝓤 H A T-Outcome.the-row) u2 (r2 ∷ []) (λ is2. w-land ! (w-from ! (w-stop !)) (w-init ! 69 refl (LL.lawful T-Outcome.the-type L-Outcome.the-laws 𝓤 H A W .typed u2 _ is2 .0)) $
           w-drop ! $ w-split ! $ w-move ! (1 ∷ []) $ w-split ! $ w-move ! (1 ∷ []) $ w-split ! $ w-move ! (1 ∷ []) $ w-split ! $ w-move ! (1 ∷ 26 ∷ 15 ∷ []) $ w-back ! tt usize κ-permutation q-permutation γ-permutation b-permutation o-permutation (named 4) (named 4) permutation (length permutation) refl ν2-8 δ2-8 (zs2 .1 .1 .1 .1 .1 .1 .1 .1 .0) room-permutation same2-permutation $
