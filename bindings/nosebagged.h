@@ -5,7 +5,8 @@
  * slices and every number; what C cannot promise, the caller must:
  *   - a pointer is aligned, is not null (also where the count is 0), and points to as many items as the count says;
  *   - nothing that is written (no `const`) overlaps anything else that is lent to the same call;
- *   - nothing else reads or writes the lent memory while the call runs.
+ *   - nothing else reads or writes the lent memory while the call runs;
+ *   - the floating-point mode is the default one (round to nearest, subnormals kept): not after -ffast-math or fesetround.
  *
  * The matrix is stored by upper columns: column k's rows, at most k and rising, stand in input_rows from input_starts[k] to
  * input_starts[k + 1], their values beside them. n is at most 32,768, the stored rows at most 1,048,576. */

@@ -19,10 +19,11 @@ The terms may name what is known: each parameter by its name (a slice's is its l
 call N its result uN, its ensures dN, the list cN-P that it leaves in the slice P and sameN-P, that this is as long as before.
 Of a local array A, `[u; n]`, its list is A, made-A says that it is n times u, and size-A that it has n.
 
-What it covers: parameters that are words, plain structs and enums, slices and `&mut [T; n]`; local arrays of structs; calls whose
-arguments are words, whole structs, slices and arrays; contracts of one `requires` and one `ensures` at most; one loop `while i < to {
-calls; i += 1 }`, in a function with no arrays. After each call the walk is cut into a sequent of its own, in which what the next call
-does not need is one entry of the context. Positions in the context are counted here, never by hand. docs/WALKS.md says more.
+What it covers: parameters that are words, plain structs and enums, slices and `&mut [T; n]`; tuple structs made of words; local arrays
+of structs; calls whose arguments are words, whole structs, slices and arrays; contracts of one `requires` and one `ensures` at most; one
+loop `while i < to { calls; i += 1 }`, in a function with no arrays. After each call the walk is cut into a sequent of its own, in which
+what the next call does not need is one entry of the context. Positions in the context are counted here, never by hand. docs/WALKS.md
+says more.
 """
 import glob, os, re, subprocess, sys
 
@@ -341,6 +342,7 @@ class Walk:
             w.loc[dest] = dict(kind='ref', of=w.P[p - 1][0], mach=f'vptr b-{w.id(w.P[p - 1][0])} o-{w.id(w.P[p - 1][0])}')
             return
         if rv[0] == 'aggregate':
+            if w.locals[dest].startswith('L-'): return w.made(dest, rv, to, how)
             a, b = seqlist(rv[1]); r = int(a[1][1])
             if w.loc[r]['of'] in w.owned: return w.slice(dest, r, to)
             p = int(b[1][1]); n = w.P[p - 1][0]
@@ -361,6 +363,15 @@ class Walk:
         ty = f'(tt, record {{ fits = lit< tt }})' if o[0] == 'int' else f'({typed(v.get("t", "usize"))} .typed {w.atom(v["val"])} _ {w.atom(v["is"])} .0)'
         w.line(f'assigns ! (of-opd ! {load}) ' + to(how, ty))
         w.loc[dest] = v
+
+    def made(w, dest, rv, to, how):
+        """a tuple struct of words"""
+        t = w.locals[dest][2:-4]; os = [w.operand(o) for o in seqlist(rv[1])]
+        assert all(v['mach'].startswith('vint') for _, v in os), (rv, 'a field that is no word')
+        val = '(record { ' + '; '.join(f'{j} = {v["val"]}' for j, (_, v) in enumerate(os)) + ' })'
+        is_ = f'(LL.owes {of(t)} {val} {tup([v["is"] for _, v in os])})'
+        w.line('assigns ! (agg ! ' + ''.join(f'(and-then ! {load} ' for load, _ in os) + '(no-more !)' + ')' * len(os) + ') ' + to(how, f'({typed(t)} .typed {val} _ {is_} .0)'))
+        w.loc[dest] = dict(kind='struct', t=t, val=val, mach=f'(LL.val {of(t)} {val})', **{'is': is_})
 
     def lending(w, n, m):
         """what the steps that lend the slice n, and give it back, are told: it is the callee's lifetime m"""

@@ -237,4 +237,4 @@ def main():
             open(path, 'wb').write(data)
     print(len(made), 'jobs')
 
-main()
+if __name__ == '__main__': main()

@@ -14,8 +14,8 @@ use Rattle.statement.specs.Shape.{supernodes}
 use Rattle.statement.specs.Supernodes.{updates}
 use Rattle.laws.specs.Answered.{answered}
 use Rattle.statement.specs.Record.{emptyRecord}
-use Rattle.statement.specs.Areas.{held, noUpdate, flat}
-use Rattle.statement.specs.Calls.{analysis, settled, recordOf, areasOf, cleared, structureRoom, analyseFault, analyse}
+use Rattle.statement.specs.Areas.{needs, held, noUpdate, flat}
+use Rattle.statement.specs.Calls.{analysis, settled, recordOf, areasOf, cleared, structureRoom, later, analyseFault, analyse, Analyses}
 use Rattle.statement.specs.declared.Answer.{Answer}
 use Rattle.statement.specs.declared.Answer.the-variants.{Accepted}
 use Rattle.statement.specs.declared.Outcome.{Outcome}
@@ -141,6 +141,43 @@ module _ (M : Matrix) (cap : ℕ) (r : Room) (f : r .floats ≡ ample) (v : r .v
         gone : y .answer ≢ Accepted → us₃ ≡ analyse M cap r .areas .updates
         gone q = c ∙ ap (λ m. replicate m noUpdate ++ drop m us₂) (e ∙ sym (stale-refused (y .answer) (length us) q))
             ∙ ap (λ l. replicate (length us) noUpdate ++ l) (drop-of-length-le us₂ {i = length us} (omega (arith, same))) ∙ append-nil (replicate (length us) noUpdate) ∙ ten-refused (λ z. q (out ∙ z))
+
+-- ---- the promise: areas 8 and 11 are not lent, and their room is never read
+
+module _ (M : Matrix) (cap : ℕ) (r : Room) where
+  abbrev as-lent : Room
+  as-lent = record { permutation = r .permutation; firsts = r .firsts; starts = r .starts; groups = r .groups; tasks = r .tasks; top = r .top; words = r .words; floats = 0; rows = r .rows; updates = r .updates; values = 0 }
+
+  unread : analyse M cap r ≡ analyse M cap as-lent
+  unfolding analyse analyseFault structureRoom needs later
+  unread = refl
+
+  not-lent : (analyse M cap r .areas .floats ≡ []) × (analyse M cap r .areas .values ≡ [])
+  unfolding analyse structureRoom
+  not-lent = go (analyseFault M cap r (analysis M))
+    where
+      go : (o : Option Answer) → (settled (structureRoom r) o (recordOf Analysed M (analysis M)) (areasOf (structureRoom r) (analysis M) []) .areas .floats ≡ []) × (settled (structureRoom r) o (recordOf Analysed M (analysis M)) (areasOf (structureRoom r) (analysis M) []) .areas .values ≡ [])
+      go none = unfold settled areasOf held in (refl, refl)
+      go (some a) = unfold settled cleared in (refl, refl)
+
+  pub analyses : {p f s g t o w n : List ℕ} {y : Outcome} {us : List Update} → Settles (analyse M cap r) y p f s g t o w n us
+      → Analyses M cap as-lent (record { returned = y; areas = record { permutation = p; firsts = f; starts = s; groups = g; tasks = t; top = o; words = w; floats = []; rows = n; updates = us; values = [] } })
+  analyses h = (λ i. record {
+    returned = h .plain .out i;
+    areas = record {
+      permutation = h .plain .one i;
+      firsts = h .plain .two i;
+      starts = h .plain .three i;
+      groups = h .plain .four i;
+      tasks = h .plain .five i;
+      top = h .plain .six i;
+      words = h .plain .seven i;
+      floats = sym (not-lent .0) i;
+      rows = h .plain .nine-holds i;
+      updates = h .ten-holds i;
+      values = sym (not-lent .1) i;
+    };
+  }) ∙ unread
 
 -- ---- the same room, by the lengths that the areas have after a call
 

@@ -1,10 +1,11 @@
 // The first call: the structure of a matrix's factor, in lent areas.
 ghost use mathlib.Core.Path.{_≡_};
+ghost use mathlib.Core.List.{[]};
 ghost use lib.ListN.{length};
 ghost use Rattle.statement.specs.Input.{matrix};
-ghost use Rattle.statement.specs.Calls.{analyse};
+ghost use Rattle.statement.specs.Calls.{analyse, Analyses};
 ghost use Rattle.survey.specs.Laid.{Surveyed, Found};
-ghost use Rattle.survey.specs.Settles.{SettlesPlain, Settles};
+ghost use Rattle.survey.specs.Settles.{SettlesPlain};
 ghost use Rattle.analyse.specs.Lent.{lentStructure};
 use answers::refused;
 use areas::clear_words;
@@ -147,7 +148,7 @@ pub fn analyse(
     rows: &mut [usize],
     updates: &mut [Update],
 ) -> Outcome
-    ensures { λ x. ⌜ Settles (analyse (matrix n (now («input_starts» .entry)) (now («input_rows» .entry)) (now («input_values» .entry))) cap (lentStructure (length (now (permutation .entry))) (length (now (firsts .entry))) (length (now (starts .entry))) (length (now (groups .entry))) (length (now (tasks .entry))) (length (now (top .entry))) (length (now (words .entry))) (length (now (rows .entry))) (length (now (updates .entry))))) x (now (permutation .exit)) (now (firsts .exit)) (now (starts .exit)) (now (groups .exit)) (now (tasks .exit)) (now (top .exit)) (now (words .exit)) (now (rows .exit)) (now (updates .exit)) ⌝ }
+    ensures { λ x. ⌜ Analyses (matrix n (now («input_starts» .entry)) (now («input_rows» .entry)) (now («input_values» .entry))) cap (record { permutation = length (now (permutation .entry)); firsts = length (now (firsts .entry)); starts = length (now (starts .entry)); groups = length (now (groups .entry)); tasks = length (now (tasks .entry)); top = length (now (top .entry)); words = length (now (words .entry)); floats = 0; rows = length (now (rows .entry)); updates = length (now (updates .entry)); values = 0 }) (record { returned = x; areas = record { permutation = now (permutation .exit); firsts = now (firsts .exit); starts = now (starts .exit); groups = now (groups .exit); tasks = now (tasks .exit); top = now (top .exit); words = now (words .exit); floats = []; rows = now (rows .exit); updates = now (updates .exit); values = [] } }) ⌝ }
 {
     let long = updates.len();
     let x = begin(

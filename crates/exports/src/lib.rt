@@ -1,13 +1,11 @@
 // The four calls for programs in C and Rust: the static library. What crosses, and what each word means, is in `crossing`.
+ghost use mathlib.Core.List.{[]};
 ghost use lib.ListN.{length};
 ghost use Rattle.statement.specs.Input.{matrix};
 ghost use Rattle.statement.specs.Calls.{analyse, factor};
 ghost use Rattle.statement.specs.Solve.{solve, view};
-ghost use Rattle.laws.specs.Lent.{lent};
-ghost use Rattle.analyse.specs.Lent.{lentStructure};
-ghost use Rattle.factor.specs.Filled.{lentAll};
 ghost use Rattle.crossing.specs.Words.{orderSaid, stopSaid, recordSaid};
-ghost use Rattle.exports.specs.Crossed.{AnalyseCrossed, FactorCrossed, SolveCrossed, ColumnCrossed};
+ghost use Rattle.exports.specs.Crossed.{Crossed, SolveCrossed, ColumnCrossed};
 use analyse::analyse;
 use answers::number;
 use crossing::answer_words;
@@ -41,7 +39,7 @@ pub extern "C" fn nosebagged_analyse(
     updates: &mut [Update],
     results: &mut [usize; 12],
 ) -> usize
-    ensures { λ r. ⌜ AnalyseCrossed (analyse (matrix n (now («input_starts» .entry)) (now («input_rows» .entry)) (now («input_values» .entry))) cap (lentStructure (length (now (permutation .entry))) (length (now (firsts .entry))) (length (now (starts .entry))) (length (now (groups .entry))) (length (now (tasks .entry))) (length (now (top .entry))) (length (now (words .entry))) (length (now (rows .entry))) (length (now (updates .entry))))) r (now (results .exit)) (now (permutation .exit)) (now (firsts .exit)) (now (starts .exit)) (now (groups .exit)) (now (tasks .exit)) (now (top .exit)) (now (words .exit)) (now (rows .exit)) (now (updates .exit)) ⌝ }
+    ensures { λ r. ⌜ Crossed (analyse (matrix n (now («input_starts» .entry)) (now («input_rows» .entry)) (now («input_values» .entry))) cap (record { permutation = length (now (permutation .entry)); firsts = length (now (firsts .entry)); starts = length (now (starts .entry)); groups = length (now (groups .entry)); tasks = length (now (tasks .entry)); top = length (now (top .entry)); words = length (now (words .entry)); floats = 0; rows = length (now (rows .entry)); updates = length (now (updates .entry)); values = 0 })) r (now (results .exit)) (record { permutation = now (permutation .exit); firsts = now (firsts .exit); starts = now (starts .exit); groups = now (groups .exit); tasks = now (tasks .exit); top = now (top .exit); words = now (words .exit); floats = []; rows = now (rows .exit); updates = now (updates .exit); values = [] }) ⌝ }
 {
     let found = analyse(
         n,
@@ -86,7 +84,7 @@ pub extern "C" fn nosebagged_factor(
     values: &mut [f64],
     results: &mut [usize; 12],
 ) -> usize
-    ensures { λ r. ⌜ FactorCrossed (factor (matrix n (now («input_starts» .entry)) (now («input_rows» .entry)) (now («input_values» .entry))) cap (orderSaid order) (now (list .entry)) (stopSaid stop) (lentAll (length (now (permutation .entry))) (length (now (firsts .entry))) (length (now (starts .entry))) (length (now (groups .entry))) (length (now (tasks .entry))) (length (now (top .entry))) (length (now (words .entry))) (length (now (floats .entry))) (length (now (rows .entry))) (length (now (updates .entry))) (length (now (values .entry))))) r (now (results .exit)) (now (permutation .exit)) (now (firsts .exit)) (now (starts .exit)) (now (groups .exit)) (now (tasks .exit)) (now (top .exit)) (now (words .exit)) (now (floats .exit)) (now (rows .exit)) (now (updates .exit)) (now (values .exit)) ⌝ }
+    ensures { λ r. ⌜ Crossed (factor (matrix n (now («input_starts» .entry)) (now («input_rows» .entry)) (now («input_values» .entry))) cap (orderSaid order) (now (list .entry)) (stopSaid stop) (record { permutation = length (now (permutation .entry)); firsts = length (now (firsts .entry)); starts = length (now (starts .entry)); groups = length (now (groups .entry)); tasks = length (now (tasks .entry)); top = length (now (top .entry)); words = length (now (words .entry)); floats = length (now (floats .entry)); rows = length (now (rows .entry)); updates = length (now (updates .entry)); values = length (now (values .entry)) })) r (now (results .exit)) (record { permutation = now (permutation .exit); firsts = now (firsts .exit); starts = now (starts .exit); groups = now (groups .exit); tasks = now (tasks .exit); top = now (top .exit); words = now (words .exit); floats = now (floats .exit); rows = now (rows .exit); updates = now (updates .exit); values = now (values .exit) }) ⌝ }
 {
     let o = order_of(order);
     let e = stop_of(stop);
@@ -128,7 +126,7 @@ pub extern "C" fn nosebagged_solve(
     b: &mut [f64],
     answer: &mut [usize; 3],
 ) -> usize
-    ensures { λ r. ⌜ SolveCrossed (solve (recordSaid (now («record» .entry))) (lent (now (permutation .entry)) (now (firsts .entry)) (now (starts .entry)) (now (rows .entry)) (now (values .entry))) (now (b .entry)) (length (now (words .entry))) (length (now (floats .entry)))) r (now (answer .exit)) (now (words .exit)) (now (floats .exit)) (now (b .exit)) ⌝ }
+    ensures { λ r. ⌜ SolveCrossed (solve (recordSaid (now («record» .entry))) (record { permutation = now (permutation .entry); firsts = now (firsts .entry); starts = now (starts .entry); rows = now (rows .entry); values = now (values .entry) }) (now (b .entry)) (length (now (words .entry))) (length (now (floats .entry)))) r (now (answer .exit)) (now (words .exit)) (now (floats .exit)) (now (b .exit)) ⌝ }
 {
     let a = solve(
         record_of(record),
@@ -159,7 +157,7 @@ pub extern "C" fn nosebagged_column(
     q: usize,
     to: &mut [f64],
 ) -> usize
-    ensures { λ r. ⌜ ColumnCrossed (view (recordSaid (now («record» .entry))) (lent (now (permutation .entry)) (now (firsts .entry)) (now (starts .entry)) (now (rows .entry)) (now (values .entry))) (record { 0 = q })) (length (now (to .entry))) r (now (to .exit)) ⌝ }
+    ensures { λ r. ⌜ ColumnCrossed (view (recordSaid (now («record» .entry))) (record { permutation = now (permutation .entry); firsts = now (firsts .entry); starts = now (starts .entry); rows = now (rows .entry); values = now (values .entry) }) (record { 0 = q })) (length (now (to .entry))) r (now (to .exit)) ⌝ }
 {
     let part = column(
         record_of(record),

@@ -1,8 +1,7 @@
 // The second call: structure and values of a matrix's factor, in lent areas.
 ghost use lib.ListN.{length};
 ghost use Rattle.statement.specs.Input.{matrix};
-ghost use Rattle.statement.specs.Calls.{factor};
-ghost use Rattle.factor.specs.Filled.{FactorSettles, lentAll};
+ghost use Rattle.statement.specs.Calls.{Factors};
 use begin::begin;
 use settling::settle;
 use statement::Order;
@@ -33,7 +32,7 @@ pub fn factor(
     updates: &mut [Update],
     values: &mut [f64],
 ) -> Outcome
-    ensures { λ x. ⌜ FactorSettles (factor (matrix n (now («input_starts» .entry)) (now («input_rows» .entry)) (now («input_values» .entry))) cap order (now (list .entry)) stop (lentAll (length (now (permutation .entry))) (length (now (firsts .entry))) (length (now (starts .entry))) (length (now (groups .entry))) (length (now (tasks .entry))) (length (now (top .entry))) (length (now (words .entry))) (length (now (floats .entry))) (length (now (rows .entry))) (length (now (updates .entry))) (length (now (values .entry))))) x (now (permutation .exit)) (now (firsts .exit)) (now (starts .exit)) (now (groups .exit)) (now (tasks .exit)) (now (top .exit)) (now (words .exit)) (now (floats .exit)) (now (rows .exit)) (now (updates .exit)) (now (values .exit)) ⌝ }
+    ensures { λ x. ⌜ Factors (matrix n (now («input_starts» .entry)) (now («input_rows» .entry)) (now («input_values» .entry))) cap order (now (list .entry)) stop (record { permutation = length (now (permutation .entry)); firsts = length (now (firsts .entry)); starts = length (now (starts .entry)); groups = length (now (groups .entry)); tasks = length (now (tasks .entry)); top = length (now (top .entry)); words = length (now (words .entry)); floats = length (now (floats .entry)); rows = length (now (rows .entry)); updates = length (now (updates .entry)); values = length (now (values .entry)) }) (record { returned = x; areas = record { permutation = now (permutation .exit); firsts = now (firsts .exit); starts = now (starts .exit); groups = now (groups .exit); tasks = now (tasks .exit); top = now (top .exit); words = now (words .exit); floats = now (floats .exit); rows = now (rows .exit); updates = now (updates .exit); values = now (values .exit) } }) ⌝ }
 {
     let x = begin(
         n,

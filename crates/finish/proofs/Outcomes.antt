@@ -9,10 +9,11 @@ use native.Mathlib.Omega.{arith}
 use lib.Dec.{ltb}
 use lib.ListN.{length, getD, replicate, length-append, List·getD-append}
 use lib.Ieee.{Float}
-use borrow.Author.Tests.{lt-ltb, le-ltb}
+use borrow.Author.Tests.{ltb-true}
 use Rattle.laws.specs.Numbered.{shapeFor}
 use Rattle.laws.proofs.Analysed.{length-q}
 use Rattle.statement.specs.Input.{Matrix, pattern}
+use Rattle.statement.specs.Postorder.{toOriginal}
 use Rattle.statement.specs.Postorder as postorder
 use Rattle.statement.specs.Shape.{supernodes}
 use Rattle.statement.specs.Tasks.{splitOf}
@@ -23,7 +24,9 @@ use Rattle.statement.specs.Areas.{short, held, flat}
 use Rattle.statement.specs.Calls.{inputFault, analysis, settled, recordOf, areasOf, cleared, stopOf, factorNeeds, factorFault, factor}
 use Rattle.statement.specs.declared.Answer.{Answer}
 use Rattle.statement.specs.declared.Answer.the-variants.{Accepted, WrongPivot}
+use Rattle.statement.specs.declared.Factored.{Factored}
 use Rattle.statement.specs.declared.Order.{Order}
+use Rattle.statement.specs.declared.Original.{Original}
 use Rattle.statement.specs.declared.Outcome.{Outcome}
 use Rattle.statement.specs.declared.Room.{Room}
 use Rattle.statement.specs.declared.Stage.{Stage}
@@ -40,7 +43,7 @@ use Rattle.survey.proofs.Reading.{held-is}
 use Rattle.survey.proofs.Settling.{refused-out, refused-areas}
 use Rattle.begin.specs.Begun.{zeroFloats}
 use Rattle.begin.specs.Ordered.{orderTest}
-use Rattle.finish.specs.Filled.{ran, pivotTest, Over, Ended, Verdict, before, pivot, sound, FactorSettlesPlain}
+use Rattle.finish.specs.Filled.{ran, pivotTest, Over, Ended, Verdict, before, after, FactorSettlesPlain}
 
 -- ---- the tests
 
@@ -54,10 +57,22 @@ in-one-run none none false x (some a) d y w rest = refl
 in-one-run none none false x none true y w rest = refl
 in-one-run none none false x none false y w rest = refl
 
+-- where the test of the pivots is passed it has no answer
+no-answer : (b : Bool) (k : Original) → answered (test b (WrongPivot k) none) ≡ Accepted → test b (WrongPivot k) none ≡ none
+unfolding answered test
+no-answer true k e = absurd (omega (arith, ap number e))
+no-answer false k e = refl
+
 -- the permutation's area begins with it
 module _ (M : Matrix) (m : ℕ) {permutation : List ℕ} (e : permutation ≡ held m 0 (postorder.permutation (pattern M) (M .n))) where
   column : (c : ℕ) → c < M .n → getD permutation c 0 ≡ getD (postorder.permutation (pattern M) (M .n)) c 0
   column c h = ap (λ x. getD x c 0) (held-is m (postorder.permutation (pattern M) (M .n)) e) ∙ List·getD-append (postorder.permutation (pattern M) (M .n)) _ 0 c (omega (arith, length-q M))
+
+  -- so that the test names the same column by either
+  same-named : (c : Factored) (b : Bool) → ltb (c .0) (M .n) ≡ b → test b (WrongPivot (toOriginal permutation c)) none ≡ test b (WrongPivot (toOriginal (postorder.permutation (pattern M) (M .n)) c)) none
+  unfolding test
+  same-named c true h = ap (λ k. some (WrongPivot (record { 0 = k }))) (column (c .0) (ltb-true (c .0) (M .n) h))
+  same-named c false h = refl
 
   pub columns-there : M .n ≤ length permutation
   columns-there = omega (arith, ap length (held-is m (postorder.permutation (pattern M) (M .n)) e), length-append (postorder.permutation (pattern M) (M .n)) (replicate (m - length (postorder.permutation (pattern M) (M .n))) 0), length-q M)
@@ -73,7 +88,7 @@ module _ (M : Matrix) (cap : ℕ) (o : Order) (l : List ℕ) (e : Stop) (r : Roo
   unfolding structureFault measureFault orderTest pivotTest factorFault analysis
   same-fault = in-one-run (inputFault M) (short (factorNeeds M r)) _ _ _ _ _ _ _
 
-  module _ (x : Findings) (least : ℕ) {permutation firsts starts groups tasks nine : List ℕ} {values : List Float} (d : Ended M cap o l e r x least permutation firsts starts groups tasks nine values) where
+  module _ (x : Findings) (least : Factored) {permutation firsts starts groups tasks nine : List ℕ} {values : List Float} (d : Ended M cap o l e r x least permutation firsts starts groups tasks nine values) where
     pub there : x .answer ≡ Accepted → M .n ≤ length permutation
     there k = columns-there M (r .permutation) (d .go k .laid .one)
 
@@ -82,25 +97,19 @@ module _ (M : Matrix) (cap : ℕ) (o : Order) (l : List ℕ) (e : Stop) (r : Roo
       passed : fault ≡ pivotTest M o l e
       passed = sym same-fault ∙ or-next early (pivotTest M o l e) (or-next (structureFault M cap r) (orderTest M o l e) (d .go k .laid .calm) ∙ d .go k .legal)
 
-      broken : least < M .n → WrongPivot (postorder.toOriginal permutation (record { 0 = least })) ≡ answered fault
-      unfolding pivotTest test answered analysis
-      broken h = ap (λ c. WrongPivot (record { 0 = c })) (column M (r .permutation) (d .go k .laid .one) least h) ∙ sym (ap answered (passed ∙ (let q : pivotTest M o l e ≡ some (WrongPivot (postorder.toOriginal (analysis M .permutation) (record { 0 = least }))) = rw (← d .go k .low, lt-ltb least (M .n) h) in q)))
-
-      calm : M .n ≤ least → fault ≡ none
-      unfolding pivotTest test
-      calm h = passed ∙ rw (← d .go k .low, le-ltb least (M .n) h)
+      pivots : test (ltb (least .0) (M .n)) (WrongPivot (toOriginal permutation least)) none ≡ fault
+      unfolding pivotTest analysis
+      pivots = same-named M (r .permutation) (d .go k .laid .one) least (ltb (least .0) (M .n)) refl ∙ rw (d .go k .low) (sym passed)
 
     module _ {a : Answer} where
       pub told : Verdict x least (M .n) permutation a → a ≡ answered fault
       unfolding answered
       told (before k q) = q ∙ d .ans ∙ or-first early (pivotTest M o l e) (λ z. k (d .ans ∙ z)) ∙ ap answered same-fault
-      told (pivot k h q) = q ∙ broken k h
-      told (sound k h q) = q ∙ sym (ap answered (calm k h))
+      told (after k q) = q ∙ ap answered (pivots k)
 
       pub over : Verdict x least (M .n) permutation a → a ≡ Accepted → Over M cap o l e r x least permutation firsts starts groups tasks nine values × (fault ≡ none)
       over (before k q) z = absurd (k (sym q ∙ z))
-      over (pivot k h q) z = absurd (omega (arith, ap number (sym q ∙ z)))
-      over (sound k h q) z = (d .go k, calm k h)
+      over (after k q) z = (d .go k, sym (pivots k) ∙ no-answer (ltb (least .0) (M .n)) (toOriginal permutation least) (sym q ∙ z))
 
   -- ---- a refusal: the plain areas are cleared once more
 
@@ -134,7 +143,7 @@ module _ (M : Matrix) (cap : ℕ) (o : Order) (l : List ℕ) (e : Stop) (r : Roo
   unfolding factor settled
   said q = rw q
 
-  module _ (s : Findings) {least : ℕ} {permutation firsts starts groups tasks₁ nine : List ℕ} {values : List Float} (d : Over M cap o l e r s least permutation firsts starts groups tasks₁ nine values) {top₁ tasks top : List ℕ} {t u : ℕ}
+  module _ (s : Findings) {least : Factored} {permutation firsts starts groups tasks₁ nine : List ℕ} {values : List Float} (d : Over M cap o l e r s least permutation firsts starts groups tasks₁ nine values) {top₁ tasks top : List ℕ} {t u : ℕ}
       (p : Parts (splitOf (shapeFor M)) tasks₁ top₁ tasks top t u) (lt : length tasks₁ ≡ r .tasks) (lo : length top₁ ≡ r .top)
       (st : Stage) (stage-is : st ≡ cond (ltb (stopOf (shapeFor M) e) (s .supernodes)) Partial Full) where
     record-is : record { state = st; n = M .n; supernodes = s .supernodes; rows = s .rows; updates = s .updates; tasks = t; top = u; entries = s .entries; work = s .work } ≡ recordOf (cond (ltb (stopOf (analysis M .shape) e) (supernodes (analysis M .shape))) Partial Full) M (analysis M)

@@ -16,6 +16,7 @@ use Rattle.statement.specs.Areas.{held, noUpdate}
 use Rattle.statement.specs.Calls.{analysis, entryA, orderOf, stopOf, stateAfter}
 use Rattle.statement.specs.Demands.{Names}
 use Rattle.statement.specs.declared.Answer.the-variants.{Accepted}
+use Rattle.statement.specs.declared.Factored.{Factored}
 use Rattle.statement.specs.declared.Order.{Order}
 use Rattle.statement.specs.declared.Room.{Room}
 use Rattle.statement.specs.declared.Stop.{Stop}
@@ -165,7 +166,7 @@ module _ {M : Matrix} {cap : ℕ} {o : Order} {l : List ℕ} {e : Stop} {r : Roo
             run-entries S (built M well) A (entryA M (postorder.permutation (pattern M) (M .n))) (λ i j h k. scratch .lower .entries i j k (unfold shapeOf in h)) (start S) names
             ∙ ap (run S (entryA M (postorder.permutation (pattern M) (M .n))) (start S)) names-are
 
-        module _ {words″ : List ℕ} {values′ : List Float} {least : ℕ} (y : RunLeft t (x .supernodes) (M .n) (length (M .rows)) (x .entries) firsts starts nine words′ words″ floats values values′ least) where
+        module _ {values′ : List Float} {least : Factored} (y : RunLeft t (M .n) (length (M .rows)) (x .entries) firsts starts nine words′ floats values values′ least) where
           -- of the whole structure, also where nothing is run
           whole : (k : ℕ) → t ≡ k → Ran S A names (take (x .entries) values) (take (x .entries) values′) least
           whole zero z = record {
@@ -211,12 +212,12 @@ module _ {M : Matrix} {cap : ℕ} {o : Order} {l : List ℕ} {e : Stop} {r : Roo
     pub run-asked : 0 < t → RunReady t ns (M .n) (length (M .rows)) total firsts starts nine groups us′ words′ floats values
     run-asked h = accepted-or (x .answer) (λ k. rw (en, ee) (run-ready (b .go k) d′ same t (stop-is k) h)) (λ k. absurd (omega (arith, steps .none k)))
 
-    pub ended : {words″ : List ℕ} {values′ : List Float} {least : ℕ} → RunLeft t ns (M .n) (length (M .rows)) total firsts starts nine words′ words″ floats values values′ least → length values′ ≡ length values
+    pub ended : {values′ : List Float} {least : Factored} → RunLeft t (M .n) (length (M .rows)) total firsts starts nine words′ floats values values′ least → length values′ ≡ length values
         → Ended M cap o l e r x least permutation firsts starts groups tasks nine values′
     ended y h = record {
       ans = b .ans;
       go = λ k.
-          let y′ : RunLeft t (x .supernodes) (M .n) (length (M .rows)) (x .entries) firsts starts nine words′ _ floats values _ _ = rw (en, ee) at y in
+          let y′ : RunLeft t (M .n) (length (M .rows)) (x .entries) firsts starts nine words′ floats values _ _ = rw ee at y in
           record {
             words = words;
             laid = b .go k .laid;

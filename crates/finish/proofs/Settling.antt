@@ -4,7 +4,7 @@ use mathlib.Core.Logic.{_≢_}
 use mathlib.Core.Bool.{Bool, true, false, cond}
 use mathlib.Core.List.{List, [], _∷_, _++_, append-nil}
 use mathlib.Core.Option.{Option, none, some}
-use Prim.Native.Nat.{ℕ, zero, suc, _-_, _≤_}
+use Prim.Native.Nat.{ℕ, zero, suc, _-_}
 use native.Mathlib.Omega.{arith}
 use lib.Dec.{ltb}
 use lib.ListN.{length, drop, replicate, drop-of-length-le}
@@ -20,6 +20,7 @@ use Rattle.statement.specs.Areas.{Areas, Need, short, held, noUpdate}
 use Rattle.statement.specs.Calls.{Analysis, analysis, inputFault, wrongPosition, settled, areasOf, cleared, factorFault, factor}
 use Rattle.statement.specs.declared.Answer.{Answer}
 use Rattle.statement.specs.declared.Answer.the-variants.{Accepted, ShortArea, WrongOrder}
+use Rattle.statement.specs.declared.Factored.{Factored}
 use Rattle.statement.specs.declared.Order.{Order}
 use Rattle.statement.specs.declared.Outcome.{Outcome}
 use Rattle.statement.specs.declared.Record.{Record}
@@ -128,7 +129,7 @@ pub lent-same : {p f s g t o w x n u v p′ f′ s′ g′ t′ o′ w′ x′ n
 lent-same a b c d e f g h j k m = λ i. lentAll (a i) (b i) (c i) (d i) (e i) (f i) (g i) (h i) (j i) (k i) (m i)
 
 module _ (M : Matrix) (cap : ℕ) (order : Order) (list : List ℕ) (e : Stop) {r r′ : Room} (q : r ≡ r′) where
-  pub ended-at : {x : Findings} {least : ℕ} {p f s g t n : List ℕ} {v : List Float} → Ended M cap order list e r x least p f s g t n v → Ended M cap order list e r′ x least p f s g t n v
+  pub ended-at : {x : Findings} {least : Factored} {p f s g t n : List ℕ} {v : List Float} → Ended M cap order list e r x least p f s g t n v → Ended M cap order list e r′ x least p f s g t n v
   ended-at h = rw q at h
 
   pub plain-at : {x : Outcome} {p f s g t o w : List ℕ} {y : List Float} {n : List ℕ} {v : List Float} → FactorSettlesPlain (factor M cap order list e r) x p f s g t o w y n v → FactorSettlesPlain (factor M cap order list e r′) x p f s g t o w y n v

@@ -6,7 +6,7 @@ ghost use Rattle.statement.specs.Input.{matrix};
 ghost use Rattle.statement.specs.Calls.{factor};
 ghost use Rattle.begin.specs.Begun.{lentAll};
 ghost use Rattle.finish.specs.Filled.{Ended, Verdict, FactorSettlesPlain};
-use answers::original;
+use answers::pivot_answer;
 use answers::refused;
 use areas::clear_floats;
 use areas::clear_words;
@@ -23,8 +23,8 @@ use survey::Findings;
 use tasks::Cuts;
 use tasks::split;
 
-// The answer before the run, or number 9 with the column of the input that the least failing column is.
-fn verdict(x: Findings, least: usize, n: usize, permutation: &[usize]) -> Answer
+// The answer before the run, or where all was well the one after it.
+fn verdict(x: Findings, least: Factored, n: usize, permutation: &[usize]) -> Answer
     requires { ⌜ (x .answer ≡ Answer.Accepted → n ≤ length (now permutation)) ⌝ }
     ensures { λ r. ⌜ Verdict x least n (now (permutation .entry)) r ⌝ }
 {
@@ -32,11 +32,7 @@ fn verdict(x: Findings, least: usize, n: usize, permutation: &[usize]) -> Answer
     let Answer::Accepted = a else {
         return a;
     };
-    if least < n {
-        let c = original(permutation, Factored(least));
-        return Answer::WrongPivot(c);
-    }
-    Answer::Accepted
+    pivot_answer(least, n, permutation)
 }
 
 fn accepted(n: usize, state: Stage, s: Findings, c: Cuts) -> Outcome
@@ -61,7 +57,7 @@ fn accepted(n: usize, state: Stage, s: Findings, c: Cuts) -> Outcome
 // Accepted: the tasks, the record, and clear scratch. Refused: an empty record, and zeros in every plain area.
 pub fn finish(
     x: Findings,
-    least: usize,
+    least: Factored,
     n: usize,
     input_starts: &[usize],
     input_rows: &[usize],

@@ -5,6 +5,7 @@ ghost use Prim.Native.Nat.{ℕ, _+_, _/_, _%_, _^_, _≤_, _<_};
 ghost use lib.ListN.{length};
 ghost use Rattle.statement.specs.Job.{hexValue, valueFrom, frame, frameOf};
 ghost use Rattle.frame.specs.Line.{isSome, meant};
+use statement::Original;
 
 // A line's frame: `01` to `04`, or none.
 pub enum Frame {
@@ -13,12 +14,12 @@ pub enum Frame {
         cap: usize,
     },
     Stored {
-        column: usize,
-        row: usize,
+        column: Original,
+        row: Original,
         bits: u64,
     },
     Side {
-        position: usize,
+        position: Original,
         bits: u64,
     },
     End,
@@ -114,8 +115,8 @@ fn stored(line: &[u8]) -> Frame
     let row = field_at(line, 6, 4) as usize;
     let bits = field_at(line, 10, 16);
     Frame::Stored {
-        column: column,
-        row: row,
+        column: Original(column),
+        row: Original(row),
         bits: bits,
     }
 }
@@ -130,7 +131,7 @@ fn side(line: &[u8]) -> Frame
     let position = field_at(line, 2, 4) as usize;
     let bits = field_at(line, 6, 16);
     Frame::Side {
-        position: position,
+        position: Original(position),
         bits: bits,
     }
 }

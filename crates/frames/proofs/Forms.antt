@@ -12,6 +12,7 @@ use lib.Seq.{getD-append-seam}
 use lib.Ieee.{ofBits, binary64}
 use Rattle.statement.specs.Supernodes.{below}
 use Rattle.statement.specs.Job.{Frame, begin, stored, side, end, Phase, unbegun, storing, siding, ended, Frames, noFrames, begun, withStored, withSide, finished, takes}
+use Rattle.statement.specs.declared.Original.{Original}
 use Rattle.laws.proofs.Bools.{and-l, and-r}
 use Rattle.frames.specs.Held.{stageOf, lastColumn, Form, beginOk, storedOk, isOpen, sideOk, endOk}
 
@@ -23,34 +24,34 @@ and-both a b h = (and-l a b h, and-r a b h)
 pub begin-says : (stage n : ℕ) → beginOk stage n ≡ true → (stage ≡ 0) × (n ≤ 128)
 begin-says stage n e = let h = and-both (eqb stage 0) (leb n 128) e in (eqb-true stage 0 (h .0), leb-true n 128 (h .1))
 
-pub record Stores (stage n known count column : ℕ) : Type 0 where
+pub record Stores (stage n : ℕ) (known : Original) (count : ℕ) (column : Original) : Type 0 where
   pub stage-is : stage ≡ 1
-  pub inside : column < n
-  pub rises : known ≤ column
+  pub inside : column .0 < n
+  pub rises : known .0 ≤ column .0
   pub room : count < 4096
 
-pub stored-says : (stage n known count column : ℕ) → storedOk stage n known count column ≡ true → Stores stage n known count column
+pub stored-says : (stage n : ℕ) (known : Original) (count : ℕ) (column : Original) → storedOk stage n known count column ≡ true → Stores stage n known count column
 stored-says stage n known count column e =
     let a = and-both (eqb stage 1) _ e in
-    let b = and-both (ltb column n) _ (a .1) in
-    let d = and-both (leb known column) (ltb count 4096) (b .1) in
-    record { stage-is = eqb-true stage 1 (a .0); inside = ltb-true column n (b .0); rises = leb-true known column (d .0); room = ltb-true count 4096 (d .1) }
+    let b = and-both (ltb (column .0) n) _ (a .1) in
+    let d = and-both (leb (known .0) (column .0)) (ltb count 4096) (b .1) in
+    record { stage-is = eqb-true stage 1 (a .0); inside = ltb-true (column .0) n (b .0); rises = leb-true (known .0) (column .0) (d .0); room = ltb-true count 4096 (d .1) }
 
 open-says : (stage : ℕ) → isOpen stage ≡ true → (1 ≤ stage) × (stage ≤ 2)
 open-says stage e = let h = and-both (leb 1 stage) (leb stage 2) e in (leb-true 1 stage (h .0), leb-true stage 2 (h .1))
 
-pub record Sides (stage n given position : ℕ) : Type 0 where
+pub record Sides (stage n given : ℕ) (position : Original) : Type 0 where
   pub from : 1 ≤ stage
   pub to : stage ≤ 2
-  pub inside : position < n
-  pub next : position ≡ given
+  pub inside : position .0 < n
+  pub next : position .0 ≡ given
 
-pub side-says : (stage n given position : ℕ) → sideOk stage n given position ≡ true → Sides stage n given position
+pub side-says : (stage n given : ℕ) (position : Original) → sideOk stage n given position ≡ true → Sides stage n given position
 side-says stage n given position e =
     let a = and-both (isOpen stage) _ e in
-    let b = and-both (ltb position n) (eqb position given) (a .1) in
+    let b = and-both (ltb (position .0) n) (eqb (position .0) given) (a .1) in
     let o = open-says stage (a .0) in
-    record { from = o .0; to = o .1; inside = ltb-true position n (b .0); next = eqb-true position given (b .1) }
+    record { from = o .0; to = o .1; inside = ltb-true (position .0) n (b .0); next = eqb-true (position .0) given (b .1) }
 
 pub end-says : (stage n given : ℕ) → endOk stage n given ≡ true → (1 ≤ stage) × (stage ≤ 2) × (given ≡ n)
 end-says stage n given e =
@@ -63,8 +64,8 @@ end-says stage n given e =
 abbrev pub begunIn : ℕ → ℕ → Frames
 begunIn n cap = record { phase = storing; n = n; cap = cap; columns = []; rows = []; values = []; b = [] }
 
-abbrev pub storedIn : Frames → ℕ → ℕ → ℕ → Frames
-storedIn j column row bits = record { phase = storing; n = j .n; cap = j .cap; columns = j .columns ++ (column ∷ []); rows = j .rows ++ (row ∷ []); values = j .values ++ (ofBits binary64 bits ∷ []); b = [] }
+abbrev pub storedIn : Frames → Original → Original → ℕ → Frames
+storedIn j column row bits = record { phase = storing; n = j .n; cap = j .cap; columns = j .columns ++ (column .0 ∷ []); rows = j .rows ++ (row .0 ∷ []); values = j .values ++ (ofBits binary64 bits ∷ []); b = [] }
 
 abbrev pub sidedIn : Frames → ℕ → Frames
 sidedIn j bits = record { phase = siding; n = j .n; cap = j .cap; columns = j .columns; rows = j .rows; values = j .values; b = j .b ++ (ofBits binary64 bits ∷ []) }
@@ -79,7 +80,7 @@ begin-takes storing j n cap = refl
 begin-takes siding j n cap = refl
 begin-takes ended j n cap = refl
 
-pub stored-takes : (h : Phase) (j : Frames) (column row bits : ℕ)
+pub stored-takes : (h : Phase) (j : Frames) (column row : Original) (bits : ℕ)
     → takes h j (stored column row bits) ≡ cond (storedOk (stageOf h) (j .n) (lastColumn (j .columns)) (length (j .columns)) column) (some (storedIn j column row bits)) none
 unfolding takes withStored
 stored-takes unbegun j column row bits = refl
@@ -87,7 +88,7 @@ stored-takes storing j column row bits = refl
 stored-takes siding j column row bits = refl
 stored-takes ended j column row bits = refl
 
-pub side-takes : (h : Phase) (j : Frames) (position bits : ℕ) → takes h j (side position bits) ≡ cond (sideOk (stageOf h) (j .n) (length (j .b)) position) (some (sidedIn j bits)) none
+pub side-takes : (h : Phase) (j : Frames) (position : Original) (bits : ℕ) → takes h j (side position bits) ≡ cond (sideOk (stageOf h) (j .n) (length (j .b)) position) (some (sidedIn j bits)) none
 unfolding takes withSide
 side-takes unbegun j position bits = refl
 side-takes storing j position bits = refl
@@ -117,7 +118,7 @@ unfolding below
 below-same k x [] h = rw (le-ltb x k h)
 below-same k x (y ∷ l) h = rw (below-same k x l h)
 
-pub last-more : (x : ℕ) (l : List ℕ) → lastColumn (l ++ x ∷ []) ≡ x
+pub last-more : (x : ℕ) (l : List ℕ) → lastColumn (l ++ x ∷ []) .0 ≡ x
 last-more x l = let n : length (l ++ x ∷ []) - 1 ≡ length l = simp length-append (omega arith) in rw n (getD-append-seam l x [] 0)
 
 -- ---- the form
@@ -153,15 +154,15 @@ none-form = record {
 }
 
 module _ (j : Frames) (g : Form j) where
-  pub stored-form : (column row bits : ℕ) → storedOk (stageOf (j .phase)) (j .n) (lastColumn (j .columns)) (length (j .columns)) column ≡ true → Form (storedIn j column row bits)
+  pub stored-form : (column row : Original) (bits : ℕ) → storedOk (stageOf (j .phase)) (j .n) (lastColumn (j .columns)) (length (j .columns)) column ≡ true → Form (storedIn j column row bits)
   stored-form column row bits e =
       let s = stored-says (stageOf (j .phase)) (j .n) (lastColumn (j .columns)) (length (j .columns)) column e in
-      let m = length-append (j .columns) (column ∷ []) in
-      let r = length-append (j .rows) (row ∷ []) in
+      let m = length-append (j .columns) (column .0 ∷ []) in
+      let r = length-append (j .rows) (row .0 ∷ []) in
       let v = length-append (j .values) (ofBits binary64 bits ∷ []) in
       let a = g .many in
       let b = g .beside in
-      let t = last-more column (j .columns) in
+      let t = last-more (column .0) (j .columns) in
       record {
         small = g .small;
         few = omega (arith, s .room);
@@ -171,11 +172,11 @@ module _ (j : Frames) (g : Form j) where
         fresh = λ z. absurd (omega arith);
         bare = λ z. refl;
         full = λ z. absurd (omega arith);
-        last = λ k l. below-more k column (j .columns) (omega arith) ∙ (let q = g .last k (omega (arith, s .rises)) in omega arith);
-        under = λ k l. below-more k column (j .columns) (omega (arith, s .inside)) ∙ (let q = g .under k l in omega arith);
+        last = λ k l. below-more k (column .0) (j .columns) (omega arith) ∙ (let q = g .last k (omega (arith, s .rises)) in omega arith);
+        under = λ k l. below-more k (column .0) (j .columns) (omega (arith, s .inside)) ∙ (let q = g .under k l in omega arith);
       }
 
-  pub sided-form : (position bits : ℕ) → sideOk (stageOf (j .phase)) (j .n) (length (j .b)) position ≡ true → Form (sidedIn j bits)
+  pub sided-form : (position : Original) (bits : ℕ) → sideOk (stageOf (j .phase)) (j .n) (length (j .b)) position ≡ true → Form (sidedIn j bits)
   sided-form position bits e =
       let s = side-says (stageOf (j .phase)) (j .n) (length (j .b)) position e in
       let m = length-append (j .b) (ofBits binary64 bits ∷ []) in

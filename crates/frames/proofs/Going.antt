@@ -2,6 +2,7 @@
 use mathlib.Core.Path.{_≡_, refl, sym, ap, subst, _∙_}
 use mathlib.Core.Bool.{Bool, true, false, cond}
 use mathlib.Core.List.{List, [], _∷_, _++_, append-nil}
+use mathlib.Core.Logic.{⊎-elim}
 use mathlib.Core.Option.{Option, none, some}
 use Prim.Native.Nat.{ℕ, zero, suc, _+_, _-_, _<_, _≤_}
 use native.Mathlib.Nat.{not-suc-le-zero, le-of-suc-le-suc}
@@ -17,6 +18,7 @@ use Rattle.statement.specs.Input.{+0}
 use Rattle.statement.specs.Supernodes.{below}
 use Rattle.statement.specs.Areas.{held}
 use Rattle.statement.specs.Job.{Phase, unbegun, storing, siding, ended, Frames, noFrames, next, Reading, whole, fault, atEnd, read, matrixOf}
+use Rattle.laws.proofs.Bools.{lt-or-le}
 use Rattle.frames.specs.Held.{stageOf, Small, Holds, After, Enough, Cleared, readingOf, answerOf, Kept, Scanned, Done, lineLen}
 use Rattle.frames.specs.declared.Progress.{Progress}
 use Rattle.frames.specs.declared.Read.{Read}
@@ -124,7 +126,7 @@ pub record Going (text st₀ ro₀ : List ℕ) (va₀ ri₀ : List Float) (st ro
   pub room : Enough st₀ ro₀ va₀ ri₀
 
 abbrev noneP : Progress
-noneP = record { stage = 0; n = 0; cap = 0; known = 0; count = 0; given = 0 }
+noneP = record { stage = 0; n = 0; cap = 0; known = record { 0 = 0 }; count = 0; given = 0 }
 
 held-one : (st : List ℕ) → 0 < length st → st ≡ replicate (length st) 0 → st ≡ held (length st) 0 (0 ∷ [])
 unfolding held
@@ -184,14 +186,18 @@ module _ (text st₀ ro₀ : List ℕ) (va₀ ri₀ : List Float) (st ro : List 
       let d = drop-drop (lineLen (drop at text) + 1) at text in
       rw (k, m, ← d) (sym (read-line (g .frames) line [] (drop at text) (omega arith)) ∙ g .rest)
 
-  pub cut-scanned : at < length text → e ≡ length text → Scanned (readingOf text) (Fault line) st ro va ri
-  cut-scanned l q =
-      let c = length-drop at text in
-      fault-scanned (readingOf text) st ro va ri line (sym (g .rest) ∙ read-cut (g .frames) line [] (drop at text) (omega arith) (omega arith))
+  cut-is : at < length text → e ≡ length text → readingOf text ≡ fault line
+  cut-is l q = let c = length-drop at text in sym (g .rest) ∙ read-cut (g .frames) line [] (drop at text) (omega arith) (omega arith)
 
-  module _ (r : Progress) (st′ ro′ : List ℕ) (va′ ri′ : List Float) (h : After r st′ ro′ va′ ri′ (next (g .frames) (take (e - at) (drop at text)))) (l : e < length text) where
-    pub stop-scanned : r .stage ≡ 4 → Scanned (readingOf text) (Fault line) st′ ro′ va′ ri′
-    stop-scanned q = fault-scanned (readingOf text) st′ ro′ va′ ri′ line (by (next (g .frames) (take (e - at) (drop at text))) h (rest-is l))
+  pub cut-scanned : at < length text → e ≡ length text → Scanned (readingOf text) (Fault line) st ro va ri
+  cut-scanned l q = fault-scanned (readingOf text) st ro va ri line (cut-is l q)
+
+  module _ (r : Progress) (st′ ro′ : List ℕ) (va′ ri′ : List Float) (h : After r st′ ro′ va′ ri′ (next (g .frames) (take (e - at) (drop at text)))) where
+    -- a line that cannot stand is at fault, with its LF or without
+    pub stop-scanned : at < length text → r .stage ≡ 4 → Scanned (readingOf text) (Fault line) st′ ro′ va′ ri′
+    stop-scanned i q =
+        fault-scanned (readingOf text) st′ ro′ va′ ri′ line
+        (⊎-elim (λ l. by (next (g .frames) (take (e - at) (drop at text))) h (rest-is l)) (λ l. cut-is i (omega (arith, end-within .1))) (lt-or-le e (length text)))
       where
         by : (o : Option Frames) → After r st′ ro′ va′ ri′ o → going o line (drop (e + 1) text) ≡ readingOf text → readingOf text ≡ fault line
         by none a b = sym b
@@ -203,9 +209,9 @@ module _ (text st₀ ro₀ : List ℕ) (va₀ ri₀ : List Float) (st ro : List 
             past siding y = omega arith
             past ended y = omega arith
 
-    pub going-next : (r .stage ≡ 4 → ⊥) → Small r → length st′ ≡ length st → length ro′ ≡ length ro → length va′ ≡ length va → length ri′ ≡ length ri
+    pub going-next : e < length text → (r .stage ≡ 4 → ⊥) → Small r → length st′ ≡ length st → length ro′ ≡ length ro → length va′ ≡ length va → length ri′ ≡ length ri
         → Going text st₀ ro₀ va₀ ri₀ st′ ro′ va′ ri′ r (e + 1) (line + 1)
-    going-next q small a b c d = by (next (g .frames) (take (e - at) (drop at text))) h (rest-is l)
+    going-next l q small a b c d = by (next (g .frames) (take (e - at) (drop at text))) h (rest-is l)
       where
         by : (o : Option Frames) → After r st′ ro′ va′ ri′ o → going o line (drop (e + 1) text) ≡ readingOf text → Going text st₀ ro₀ va₀ ri₀ st′ ro′ va′ ri′ r (e + 1) (line + 1)
         by none x y = absurd (q x)

@@ -15,6 +15,7 @@ use Rattle.statement.specs.Supernodes.{below}
 use Rattle.statement.specs.Areas.{held}
 use Rattle.statement.specs.Job.{begin, stored, side, end, Frames, noFrames, takes, next, frameOf}
 use Rattle.statement.specs.Job as job
+use Rattle.statement.specs.declared.Original.{Original}
 use Rattle.laws.proofs.Bools.{lt-or-le}
 use Rattle.laws.proofs.Ranks.{list-length}
 use Rattle.areas.proofs.Lists.{list-ext}
@@ -24,7 +25,7 @@ use Rattle.frames.proofs.Pad.{put-held, fill-held, list-run}
 use Rattle.frames.proofs.Forms.{begunIn, storedIn, sidedIn, endedIn, begin-takes, stored-takes, side-takes, end-takes, begin-says, stored-says, side-says, end-says, begun-form, stored-form, sided-form, ended-form, below-same, last-more}
 
 abbrev pub faultP : Progress
-faultP = record { stage = 4; n = 0; cap = 0; known = 0; count = 0; given = 0 }
+faultP = record { stage = 4; n = 0; cap = 0; known = record { 0 = 0 }; count = 0; given = 0 }
 
 module _ (r : Progress) (st ro : List ℕ) (va ri : List Float) (t : Bool) (x : Frames) (o : Option Frames) (e : o ≡ cond t (some x) none) where
   after-no : t ≡ false → r .stage ≡ 4 → After r st ro va ri o
@@ -41,13 +42,13 @@ module _ (p : Progress) (st ro : List ℕ) (va ri : List Float) (j : Frames) (h 
   begin-no n cap e = after-no faultP st ro va ri _ _ _ (begin-takes (j .phase) j n cap) (begin-same n false e) refl
 
   pub begin-yes : (n cap : ℕ) → beginOk (p .stage) n ≡ true
-      → After (record { stage = 1; n = n; cap = cap; known = 0; count = 0; given = 0 }) st ro va ri (takes (j .phase) j (begin n cap))
+      → After (record { stage = 1; n = n; cap = cap; known = record { 0 = 0 }; count = 0; given = 0 }) st ro va ri (takes (j .phase) j (begin n cap))
   unfolding noFrames
   begin-yes n cap e =
       let w = begin-says (p .stage) n e in
       let q : j ≡ noFrames = h .form .fresh (sym (h .stage) ∙ w .0) in
       let g = subst (λ (i : Frames). Holds p st ro va ri i) q h in
-      let z : p .known ≡ 0 = g .last (omega arith) in
+      let z = ap (λ (o : Original). o .0) (g .last (omega arith)) in
       after-yes _ st ro va ri _ (begunIn n cap) _ (begin-takes (j .phase) j n cap) (begin-same n true e)
       (record {
         form = begun-form n cap (w .1);
@@ -64,7 +65,7 @@ module _ (p : Progress) (st ro : List ℕ) (va ri : List Float) (j : Frames) (h 
         right = g .right;
       })
 
-  stored-same : (column : ℕ) → storedOk (p .stage) (p .n) (p .known) (p .count) column ≡ storedOk (stageOf (j .phase)) (j .n) (lastColumn (j .columns)) (length (j .columns)) column
+  stored-same : (column : Original) → storedOk (p .stage) (p .n) (p .known) (p .count) column ≡ storedOk (stageOf (j .phase)) (j .n) (lastColumn (j .columns)) (length (j .columns)) column
   stored-same column =
       ⊎-elim (λ l. let k = h .last l in rw (h .stage, h .n, k, h .count))
       (λ l.
@@ -73,27 +74,27 @@ module _ (p : Progress) (st ro : List ℕ) (va ri : List Float) (j : Frames) (h 
       rw (← (h .stage), s))
       (lt-or-le (p .stage) 3)
 
-  pub stored-no : (column row bits : ℕ) → storedOk (p .stage) (p .n) (p .known) (p .count) column ≡ false → After faultP st ro va ri (takes (j .phase) j (stored column row bits))
+  pub stored-no : (column row : Original) (bits : ℕ) → storedOk (p .stage) (p .n) (p .known) (p .count) column ≡ false → After faultP st ro va ri (takes (j .phase) j (stored column row bits))
   stored-no column row bits e = after-no faultP st ro va ri _ _ _ (stored-takes (j .phase) j column row bits) (sym (stored-same column) ∙ e) refl
 
   -- the starts to column e, of other columns
-  reach : (st′ : List ℕ) (e : ℕ) (l : List ℕ) → p .stage < 3 → p .known ≤ e → e < length st → ((k : ℕ) → k ≤ e → below k l ≡ below k (j .columns))
-      → st′ ≡ take (p .known + 1) st ++ (replicate (e - p .known) (p .count) ++ drop (e - p .known) (drop (p .known + 1) st))
+  reach : (st′ : List ℕ) (e : ℕ) (l : List ℕ) → p .stage < 3 → p .known .0 ≤ e → e < length st → ((k : ℕ) → k ≤ e → below k l ≡ below k (j .columns))
+      → st′ ≡ take (p .known .0 + 1) st ++ (replicate (e - p .known .0) (p .count) ++ drop (e - p .known .0) (drop (p .known .0 + 1) st))
       → st′ ≡ held (length st′) 0 (list (λ k. below k l) (suc e))
   reach st′ e l s a m same f =
       let hc = h .count in
-      let hl = h .last s in
-      let c = list-length (λ k. below k (j .columns)) (suc (p .known)) in
-      let w = fill-held 0 (p .count) st st′ (list (λ k. below k (j .columns)) (suc (p .known))) (p .known + 1) (e - p .known) (h .starts) (omega arith) (omega arith) f in
-      let r = list-run (λ k. below k (j .columns)) (p .count) (suc (p .known)) (e - p .known) (λ k x y. h .form .last k (omega arith) ∙ sym hc) in
-      let n : suc (p .known) + (e - p .known) ≡ suc e = omega arith in
+      let hl = ap (λ (o : Original). o .0) (h .last s) in
+      let c = list-length (λ k. below k (j .columns)) (suc (p .known .0)) in
+      let w = fill-held 0 (p .count) st st′ (list (λ k. below k (j .columns)) (suc (p .known .0))) (p .known .0 + 1) (e - p .known .0) (h .starts) (omega arith) (omega arith) f in
+      let r = list-run (λ k. below k (j .columns)) (p .count) (suc (p .known .0)) (e - p .known .0) (λ k x y. h .form .last k (omega arith) ∙ sym hc) in
+      let n : suc (p .known .0) + (e - p .known .0) ≡ suc e = omega arith in
       w
       ∙ ap (held (length st′) 0) (r ∙ ap (list (λ k. below k (j .columns))) n ∙ list-ext (λ k. below k (j .columns)) (λ k. below k l) (suc e) (λ k x. sym (same k (omega arith))))
 
-  pub stored-yes : (column row bits : ℕ) (f : Float) (st′ : List ℕ) → storedOk (p .stage) (p .n) (p .known) (p .count) column ≡ true
+  pub stored-yes : (column row : Original) (bits : ℕ) (f : Float) (st′ : List ℕ) → storedOk (p .stage) (p .n) (p .known) (p .count) column ≡ true
       → p .n ≤ 128 → 129 ≤ length st → 4096 ≤ length ro → 4096 ≤ length va
-      → st′ ≡ take (p .known + 1) st ++ (replicate (column - p .known) (p .count) ++ drop (column - p .known) (drop (p .known + 1) st)) → f ≡ ofBits binary64 bits
-      → After (record { stage = 1; n = p .n; cap = p .cap; known = column; count = p .count + 1; given = 0 }) st′ (set ro (p .count) row) (set va (p .count) f) ri (takes (j .phase) j (stored column row bits))
+      → st′ ≡ take (p .known .0 + 1) st ++ (replicate (column .0 - p .known .0) (p .count) ++ drop (column .0 - p .known .0) (drop (p .known .0 + 1) st)) → f ≡ ofBits binary64 bits
+      → After (record { stage = 1; n = p .n; cap = p .cap; known = column; count = p .count + 1; given = 0 }) st′ (set ro (p .count) (row .0)) (set va (p .count) f) ri (takes (j .phase) j (stored column row bits))
   stored-yes column row bits f st′ e small long₁ long₂ long₃ g q =
       let t = sym (stored-same column) ∙ e in
       let u = stored-says (p .stage) (p .n) (p .known) (p .count) column e in
@@ -101,7 +102,7 @@ module _ (p : Progress) (st ro : List ℕ) (va ri : List Float) (j : Frames) (h 
       let hm = h .form .many in
       let hb = h .form .beside in
       let z : length (j .b) ≡ 0 = h .form .bare (sym (h .stage) ∙ u .stage-is) in
-      after-yes _ st′ (set ro (p .count) row) (set va (p .count) f) ri _ (storedIn j column row bits) _ (stored-takes (j .phase) j column row bits) t
+      after-yes _ st′ (set ro (p .count) (row .0)) (set va (p .count) f) ri _ (storedIn j column row bits) _ (stored-takes (j .phase) j column row bits) t
       (record {
         form = stored-form j (h .form) column row bits t;
         stage = refl;
@@ -109,10 +110,10 @@ module _ (p : Progress) (st ro : List ℕ) (va ri : List Float) (j : Frames) (h 
         cap = h .cap;
         count = simp length-append (omega arith);
         given = refl;
-        last = λ y. sym (last-more column (j .columns));
+        last = λ y. sym (ap (λ (c : ℕ). record { 0 = c }) (last-more (column .0) (j .columns)));
         closed = λ y. absurd (omega arith);
-        starts = reach st′ column (j .columns ++ column ∷ []) (omega (arith, u .stage-is)) (u .rises) (omega (arith, u .inside)) (λ k y. below-same k column (j .columns) y) g;
-        rows = put-held 0 row ro (j .rows) (p .count) (h .rows) (omega arith) (omega (arith, u .room));
+        starts = reach st′ (column .0) (j .columns ++ column .0 ∷ []) (omega (arith, u .stage-is)) (u .rises) (omega (arith, u .inside)) (λ k y. below-same k (column .0) (j .columns) y) g;
+        rows = put-held 0 (row .0) ro (j .rows) (p .count) (h .rows) (omega arith) (omega (arith, u .room));
         values = subst (λ (x : Float). set va (p .count) f ≡ held (length (set va (p .count) f)) +0 (j .values ++ x ∷ [])) q (put-held +0 f va (j .values) (p .count) (h .values) (omega arith) (omega (arith, u .room)));
         right = h .right ∙ ap (held (length ri) +0) (empty (j .b) z);
       })
@@ -121,19 +122,19 @@ module _ (p : Progress) (st ro : List ℕ) (va ri : List Float) (j : Frames) (h 
       empty [] y = refl
       empty (x ∷ l) y = absurd (omega arith)
 
-  side-same : (position : ℕ) (b : Bool) → sideOk (p .stage) (p .n) (p .given) position ≡ b → sideOk (stageOf (j .phase)) (j .n) (length (j .b)) position ≡ b
+  side-same : (position : Original) (b : Bool) → sideOk (p .stage) (p .n) (p .given) position ≡ b → sideOk (stageOf (j .phase)) (j .n) (length (j .b)) position ≡ b
   side-same position b e = rw (← (h .stage), ← (h .n), ← (h .given)) e
 
-  pub side-no : (position bits : ℕ) → sideOk (p .stage) (p .n) (p .given) position ≡ false → After faultP st ro va ri (takes (j .phase) j (side position bits))
+  pub side-no : (position : Original) (bits : ℕ) → sideOk (p .stage) (p .n) (p .given) position ≡ false → After faultP st ro va ri (takes (j .phase) j (side position bits))
   side-no position bits e = after-no faultP st ro va ri _ _ _ (side-takes (j .phase) j position bits) (side-same position false e) refl
 
-  pub side-yes : (position bits : ℕ) (f : Float) → sideOk (p .stage) (p .n) (p .given) position ≡ true → p .n ≤ 128 → 128 ≤ length ri → f ≡ ofBits binary64 bits
-      → After (record { stage = 2; n = p .n; cap = p .cap; known = p .known; count = p .count; given = position + 1 }) st ro va (set ri position f) (takes (j .phase) j (side position bits))
+  pub side-yes : (position : Original) (bits : ℕ) (f : Float) → sideOk (p .stage) (p .n) (p .given) position ≡ true → p .n ≤ 128 → 128 ≤ length ri → f ≡ ofBits binary64 bits
+      → After (record { stage = 2; n = p .n; cap = p .cap; known = p .known; count = p .count; given = position .0 + 1 }) st ro va (set ri (position .0) f) (takes (j .phase) j (side position bits))
   side-yes position bits f e small long q =
       let t = side-same position true e in
       let u = side-says (p .stage) (p .n) (p .given) position e in
       let hg = h .given in
-      after-yes _ st ro va (set ri position f) _ (sidedIn j bits) _ (side-takes (j .phase) j position bits) t
+      after-yes _ st ro va (set ri (position .0) f) _ (sidedIn j bits) _ (side-takes (j .phase) j position bits) t
       (record {
         form = sided-form j (h .form) position bits t;
         stage = refl;
@@ -146,7 +147,7 @@ module _ (p : Progress) (st ro : List ℕ) (va ri : List Float) (j : Frames) (h 
         starts = h .starts;
         rows = h .rows;
         values = h .values;
-        right = subst (λ (x : Float). set ri position f ≡ held (length (set ri position f)) +0 (j .b ++ x ∷ [])) q (put-held +0 f ri (j .b) position (h .right) (omega (arith, u .next)) (omega (arith, u .inside)));
+        right = subst (λ (x : Float). set ri (position .0) f ≡ held (length (set ri (position .0) f)) +0 (j .b ++ x ∷ [])) q (put-held +0 f ri (j .b) (position .0) (h .right) (omega (arith, u .next)) (omega (arith, u .inside)));
       })
 
   end-same : (b : Bool) → endOk (p .stage) (p .n) (p .given) ≡ b → endOk (stageOf (j .phase)) (j .n) (length (j .b)) ≡ b
@@ -155,9 +156,9 @@ module _ (p : Progress) (st ro : List ℕ) (va ri : List Float) (j : Frames) (h 
   pub end-no : endOk (p .stage) (p .n) (p .given) ≡ false → After faultP st ro va ri (takes (j .phase) j end)
   end-no e = after-no faultP st ro va ri _ _ _ (end-takes (j .phase) j) (end-same false e) refl
 
-  pub end-yes : (st′ : List ℕ) → endOk (p .stage) (p .n) (p .given) ≡ true → p .n ≤ 128 → p .known ≤ p .n → 129 ≤ length st
-      → st′ ≡ take (p .known + 1) st ++ (replicate (p .n - p .known) (p .count) ++ drop (p .n - p .known) (drop (p .known + 1) st))
-      → After (record { stage = 3; n = p .n; cap = p .cap; known = p .n; count = p .count; given = p .given }) st′ ro va ri (takes (j .phase) j end)
+  pub end-yes : (st′ : List ℕ) → endOk (p .stage) (p .n) (p .given) ≡ true → p .n ≤ 128 → p .known .0 ≤ p .n → 129 ≤ length st
+      → st′ ≡ take (p .known .0 + 1) st ++ (replicate (p .n - p .known .0) (p .count) ++ drop (p .n - p .known .0) (drop (p .known .0 + 1) st))
+      → After (record { stage = 3; n = p .n; cap = p .cap; known = record { 0 = p .n }; count = p .count; given = p .given }) st′ ro va ri (takes (j .phase) j end)
   end-yes st′ e small within long g =
       let t = end-same true e in
       let u = end-says (p .stage) (p .n) (p .given) e in

@@ -12,6 +12,7 @@ use Rattle.statement.specs.Input.{+0}
 use Rattle.statement.specs.Supernodes.{below}
 use Rattle.statement.specs.Areas.{held}
 use Rattle.statement.specs.Job.{Phase, unbegun, storing, siding, ended, Frames, noFrames, Reading, whole, fault, read, matrixOf}
+use Rattle.statement.specs.declared.Original.{Original}
 use Rattle.frames.specs.declared.Progress.{Progress}
 use Rattle.frames.specs.declared.Read.{Read}
 use Rattle.frames.specs.declared.Read.the-variants.{Whole, Fault}
@@ -26,8 +27,8 @@ stageOf siding = 2
 stageOf ended = 3
 
 -- the last stored column, 0 if there is none
-abbrev pub lastColumn : List ℕ → ℕ
-lastColumn columns = getD columns (length columns - 1) 0
+abbrev pub lastColumn : List ℕ → Original
+lastColumn columns = record { 0 = getD columns (length columns - 1) 0 }
 
 -- what lines that can stand leave
 pub record Form (j : Frames) : Type 0 where
@@ -40,7 +41,7 @@ pub record Form (j : Frames) : Type 0 where
   pub bare : stageOf (j .phase) ≡ 1 → length (j .b) ≡ 0
   pub full : stageOf (j .phase) ≡ 3 → length (j .b) ≡ j .n
   -- no column above the last, none from n on
-  pub last : (k : ℕ) → lastColumn (j .columns) < k → below k (j .columns) ≡ length (j .columns)
+  pub last : (k : ℕ) → lastColumn (j .columns) .0 < k → below k (j .columns) ≡ length (j .columns)
   pub under : (k : ℕ) → j .n ≤ k → below k (j .columns) ≡ length (j .columns)
 
 -- ---- the tests, over the code's numbers
@@ -48,14 +49,14 @@ pub record Form (j : Frames) : Type 0 where
 abbrev pub beginOk : ℕ → ℕ → Bool
 beginOk stage n = eqb stage 0 && leb n 128
 
-abbrev pub storedOk : ℕ → ℕ → ℕ → ℕ → ℕ → Bool
-storedOk stage n known count column = eqb stage 1 && (ltb column n && (leb known column && ltb count 4096))
+abbrev pub storedOk : ℕ → ℕ → Original → ℕ → Original → Bool
+storedOk stage n known count column = eqb stage 1 && (ltb (column .0) n && (leb (known .0) (column .0) && ltb count 4096))
 
 abbrev pub isOpen : ℕ → Bool
 isOpen stage = leb 1 stage && leb stage 2
 
-abbrev pub sideOk : ℕ → ℕ → ℕ → ℕ → Bool
-sideOk stage n given position = isOpen stage && (ltb position n && eqb position given)
+abbrev pub sideOk : ℕ → ℕ → ℕ → Original → Bool
+sideOk stage n given position = isOpen stage && (ltb (position .0) n && eqb (position .0) given)
 
 abbrev pub endOk : ℕ → ℕ → ℕ → Bool
 endOk stage n given = isOpen stage && eqb given n
@@ -65,7 +66,7 @@ endOk stage n given = isOpen stage && eqb given n
 -- what the code knows of its own progress
 pub record Small (p : Progress) : Type 0 where
   pub n : p .n ≤ 128
-  pub known : p .known ≤ p .n
+  pub known : p .known .0 ≤ p .n
 
 -- the starts of the columns to `known` are in their area
 pub record Holds (p : Progress) (st ro : List ℕ) (va ri : List Float) (j : Frames) : Type 0 where
@@ -76,8 +77,8 @@ pub record Holds (p : Progress) (st ro : List ℕ) (va ri : List Float) (j : Fra
   pub count : p .count ≡ length (j .columns)
   pub given : p .given ≡ length (j .b)
   pub last : p .stage < 3 → p .known ≡ lastColumn (j .columns)
-  pub closed : p .stage ≡ 3 → p .known ≡ j .n
-  pub starts : st ≡ held (length st) 0 (list (λ k. below k (j .columns)) (suc (p .known)))
+  pub closed : p .stage ≡ 3 → p .known .0 ≡ j .n
+  pub starts : st ≡ held (length st) 0 (list (λ k. below k (j .columns)) (suc (p .known .0)))
   pub rows : ro ≡ held (length ro) 0 (j .rows)
   pub values : va ≡ held (length va) +0 (j .values)
   pub right : ri ≡ held (length ri) +0 (j .b)

@@ -12,6 +12,7 @@ use areas::clear_words;
 use areas::fill_part;
 use frame::Frame;
 use frame::frame_of;
+use statement::Original;
 
 // How far a job was read. Stage 0: before `01`; 1: among `02`; 2: among `03`; 3: after `04`; 4: at fault. The starts of
 // the columns up to `known` are known, and there are `count` entries and `given` right sides.
@@ -19,7 +20,7 @@ pub struct Progress {
     pub stage: usize,
     pub n: usize,
     pub cap: usize,
-    pub known: usize,
+    pub known: Original,
     pub count: usize,
     pub given: usize,
 }
@@ -58,11 +59,11 @@ fn begin_ok(p: Progress, n: usize) -> bool
     both(p.stage == 0, n <= 128)
 }
 
-fn stored_ok(p: Progress, column: usize) -> bool
+fn stored_ok(p: Progress, column: Original) -> bool
     ensures { λ r. ⌜ r ≡ storedOk (p .stage) (p .n) (p .known) (p .count) column ⌝ }
 {
-    let room = both(p.known <= column, p.count < 4096);
-    both(p.stage == 1, both(column < p.n, room))
+    let room = both(p.known.0 <= column.0, p.count < 4096);
+    both(p.stage == 1, both(column.0 < p.n, room))
 }
 
 fn is_open(stage: usize) -> bool
@@ -71,10 +72,13 @@ fn is_open(stage: usize) -> bool
     both(1 <= stage, stage <= 2)
 }
 
-fn side_ok(p: Progress, position: usize) -> bool
+fn side_ok(p: Progress, position: Original) -> bool
     ensures { λ r. ⌜ r ≡ sideOk (p .stage) (p .n) (p .given) position ⌝ }
 {
-    both(is_open(p.stage), both(position < p.n, position == p.given))
+    both(
+        is_open(p.stage),
+        both(position.0 < p.n, position.0 == p.given),
+    )
 }
 
 fn end_ok(p: Progress) -> bool
@@ -85,13 +89,13 @@ fn end_ok(p: Progress) -> bool
 
 // Nothing read yet.
 pub fn unbegun() -> Progress
-    ensures { λ r. ⌜ r ≡ record { stage = 0; n = 0; cap = 0; known = 0; count = 0; given = 0 } ⌝ }
+    ensures { λ r. ⌜ r ≡ record { stage = 0; n = 0; cap = 0; known = record { 0 = 0 }; count = 0; given = 0 } ⌝ }
 {
     Progress {
         stage: 0,
         n: 0,
         cap: 0,
-        known: 0,
+        known: Original(0),
         count: 0,
         given: 0,
     }
@@ -99,13 +103,13 @@ pub fn unbegun() -> Progress
 
 // A line that cannot stand.
 fn at_fault() -> Progress
-    ensures { λ r. ⌜ r ≡ record { stage = 4; n = 0; cap = 0; known = 0; count = 0; given = 0 } ⌝ }
+    ensures { λ r. ⌜ r ≡ record { stage = 4; n = 0; cap = 0; known = record { 0 = 0 }; count = 0; given = 0 } ⌝ }
 {
     Progress {
         stage: 4,
         n: 0,
         cap: 0,
-        known: 0,
+        known: Original(0),
         count: 0,
         given: 0,
     }
@@ -119,7 +123,7 @@ fn take_begin(p: Progress, n: usize, cap: usize) -> Progress
             stage: 1,
             n: n,
             cap: cap,
-            known: 0,
+            known: Original(0),
             count: 0,
             given: 0,
         }
@@ -130,8 +134,8 @@ fn take_begin(p: Progress, n: usize, cap: usize) -> Progress
 
 fn take_stored(
     p: Progress,
-    column: usize,
-    row: usize,
+    column: Original,
+    row: Original,
     bits: u64,
     starts: &mut [usize],
     rows: &mut [usize],
@@ -141,10 +145,10 @@ fn take_stored(
     ensures { λ r. ⌜ Small r × ((ri : List Float) (j : Frames) → Holds p (now (starts .entry)) (now (rows .entry)) (now (values .entry)) ri j → After r (now (starts .exit)) (now (rows .exit)) (now (values .exit)) ri (takes (j .phase) j (stored column row bits))) ⌝ }
 {
     if stored_ok(p, column) {
-        let from = p.known + 1;
+        let from = p.known.0 + 1;
         let count = p.count;
-        fill_part(column - p.known, count, &mut starts[from..]);
-        rows[count] = row;
+        fill_part(column.0 - p.known.0, count, &mut starts[from..]);
+        rows[count] = row.0;
         values[count] = to_float(bits);
         Progress {
             stage: 1,
@@ -159,19 +163,21 @@ fn take_stored(
     }
 }
 
-fn take_side(p: Progress, position: usize, bits: u64, right: &mut [f64]) -> Progress
+fn take_side(p: Progress, position: Original, bits: u64, right: &mut [f64]) -> Progress
     requires { ⌜ Small p × (128 ≤ length (now right)) ⌝ }
     ensures { λ r. ⌜ Small r × ((st ro : List ℕ) (va : List Float) (j : Frames) → Holds p st ro va (now (right .entry)) j → After r st ro va (now (right .exit)) (takes (j .phase) j (side position bits))) ⌝ }
 {
     if side_ok(p, position) {
-        right[position] = to_float(bits);
+        let at = position.0;
+        right[at] = to_float(bits);
+        let known = p.known;
         Progress {
             stage: 2,
             n: p.n,
             cap: p.cap,
-            known: p.known,
+            known: known,
             count: p.count,
-            given: position + 1,
+            given: at + 1,
         }
     } else {
         at_fault()
@@ -183,13 +189,13 @@ fn take_end(p: Progress, starts: &mut [usize]) -> Progress
     ensures { λ r. ⌜ Small r × ((ro : List ℕ) (va ri : List Float) (j : Frames) → Holds p (now (starts .entry)) ro va ri j → After r (now (starts .exit)) ro va ri (takes (j .phase) j end)) ⌝ }
 {
     if end_ok(p) {
-        let from = p.known + 1;
-        fill_part(p.n - p.known, p.count, &mut starts[from..]);
+        let from = p.known.0 + 1;
+        fill_part(p.n - p.known.0, p.count, &mut starts[from..]);
         Progress {
             stage: 3,
             n: p.n,
             cap: p.cap,
-            known: p.n,
+            known: Original(p.n),
             count: p.count,
             given: p.given,
         }

@@ -4,20 +4,15 @@ ghost use mathlib.Core.List.{[]};
 ghost use Prim.Native.Nat.{_≤_};
 ghost use lib.ListN.{length};
 ghost use Rattle.statement.specs.Input.{matrix};
-ghost use Rattle.statement.specs.Job.{Frames, whole, matrixOf, jobRoom, written, job};
+ghost use Rattle.statement.specs.Job.{Frames, whole, matrixOf, jobRoom, written, answerIn, Works};
 ghost use Rattle.statement.specs.declared.Order.the-variants.{Plain};
 ghost use Rattle.statement.specs.declared.Stop.the-variants.{End};
 ghost use Rattle.factor.specs.Filled.{lentAll};
-ghost use Rattle.lines.specs.Placed.{placed};
-ghost use Rattle.jobs.specs.Worked.{Wrote};
-
-mod answer;
-
-use answer::answer;
 use factor::factor;
 use frames::Read;
 use frames::read_job;
 use lines::put_refusal;
+use reply::answer;
 use statement::Answer;
 use statement::Order;
 use statement::Stop;
@@ -57,7 +52,7 @@ fn work_in(
     out: &mut [u8; 2959],
 ) -> usize
     requires { ⌜ length (now b) ≤ 128 ⌝ }
-    ensures { λ r. ⌜ ((j : Frames) → matrix n (now («input_starts» .entry)) (now («input_rows» .entry)) (now («input_values» .entry)) ≡ matrixOf j → cap ≡ j .cap → now (list .entry) ≡ [] → lentAll (length (now (permutation .entry))) (length (now (firsts .entry))) (length (now (starts .entry))) (length (now (groups .entry))) (length (now (tasks .entry))) (length (now (top .entry))) (length (now (words .entry))) (length (now (floats .entry))) (length (now (rows .entry))) (jobRoom .updates) (length (now (values .entry))) ≡ jobRoom → now (b .entry) ≡ j .b → Wrote (written (whole j)) r (now (out .entry)) (now (out .exit))) ⌝ }
+    ensures { λ r. ⌜ ((j : Frames) → matrix n (now («input_starts» .entry)) (now («input_rows» .entry)) (now («input_values» .entry)) ≡ matrixOf j → cap ≡ j .cap → now (list .entry) ≡ [] → lentAll (length (now (permutation .entry))) (length (now (firsts .entry))) (length (now (starts .entry))) (length (now (groups .entry))) (length (now (tasks .entry))) (length (now (top .entry))) (length (now (words .entry))) (length (now (floats .entry))) (length (now (rows .entry))) (jobRoom .updates) (length (now (values .entry))) ≡ jobRoom → now (b .entry) ≡ j .b → record { out = now (out .exit); bytes = r } ≡ answerIn (written (whole j)) (now (out .entry))) ⌝ }
 {
     let o = plain_order();
     let e = no_stop();
@@ -109,7 +104,7 @@ fn work(
     out: &mut [u8; 2959],
 ) -> usize
     requires { ⌜ length (now b) ≤ 128 ⌝ }
-    ensures { λ r. ⌜ ((j : Frames) → matrix n (now («input_starts» .entry)) (now («input_rows» .entry)) (now («input_values» .entry)) ≡ matrixOf j → cap ≡ j .cap → now (b .entry) ≡ j .b → Wrote (written (whole j)) r (now (out .entry)) (now (out .exit))) ⌝ }
+    ensures { λ r. ⌜ ((j : Frames) → matrix n (now («input_starts» .entry)) (now («input_rows» .entry)) (now («input_values» .entry)) ≡ matrixOf j → cap ≡ j .cap → now (b .entry) ≡ j .b → record { out = now (out .exit); bytes = r } ≡ answerIn (written (whole j)) (now (out .entry))) ⌝ }
 {
     let mut permutation = [0; 128];
     let mut firsts = [0; 129];
@@ -145,7 +140,7 @@ fn work(
 
 // Writes the answer to a job at the start of `out`, and says how many bytes it has: at most 15, and 23 for each of 128 unknowns.
 pub fn run_job(text: &[u8], out: &mut [u8; 2959]) -> usize
-    ensures { λ r. ⌜ (now (out .exit) ≡ placed (now (out .entry)) 0 (job (now (text .entry)))) × (r ≡ length (job (now (text .entry)))) ⌝ }
+    ensures { λ r. ⌜ Works (now (text .entry)) (now (out .entry)) (record { out = now (out .exit); bytes = r }) ⌝ }
 {
     let mut starts = [0; 129];
     let mut rows = [0; 4096];

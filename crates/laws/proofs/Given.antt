@@ -184,6 +184,13 @@ module _ (M : Matrix) (cap : ℕ) (o : Order) (l : List ℕ) (e : Stop) (r : Roo
   unfolding factorFault
   factor-passed p = whole M cap (factorNeeds M r) (factorLater (analysis M) r) rest tail .passed .0 (tt, p) .0
 
+  pub factor-none : factored M cap o l e r ≡ Accepted → factorFault M cap o l (stop M cap o l e r) r (analysis M) s ≡ none
+  unfolding factor factorFault has
+  factor-none a =
+      let f = faults M cap (factorNeeds M r) (factorLater (analysis M) r) rest in
+      let w = whole M cap (factorNeeds M r) (factorLater (analysis M) r) rest tail in
+      w .passed .1 (reply-accepted f w tt .0 (sym (settled-answer r f _ _) ∙ a)) .1
+
   pub factor-given : FactorGiven M cap o l e r
   unfolding factor factorFault has inside whole tail
   factor-given =

@@ -1,15 +1,14 @@
 -- What (b) tells: the list names each number below n at one place, and no other number. Assumes nothing.
 use mathlib.Core.Path.{_≡_, refl, sym, ap, _∙_}
-use mathlib.Core.Logic.{_≢_}
-use mathlib.Core.Bool.{Bool, true, false, cond, not, _&&_}
+use mathlib.Core.Bool.{Bool, true, false, cond, not}
 use mathlib.Core.List.{List, [], _∷_}
-use Prim.Native.Nat.{ℕ, zero, suc, _+_, _≤_, _<_}
+use Prim.Native.Nat.{ℕ, zero, suc, _≤_, _<_}
 use native.Mathlib.Omega.{arith}
 use native.Mathlib.Decide.{ℕ-discrete, decLt}
 use lib.Dec.{T, eqb, eqb→eq, not-T}
 use lib.ListN.{length, getD}
-use borrow.Author.Tests.{eq-eqb, ne-eqb}
-use Rattle.statement.specs.Lists.{every, tally, place, select}
+use borrow.Author.Tests.{eq-eqb}
+use Rattle.statement.specs.Lists.{tally, place, select}
 use Rattle.statement.specs.Solve.{permutes}
 use Rattle.laws.proofs.Bools.{and-intro, eqb-of}
 use Rattle.laws.proofs.Tally.{but, count-but, count-into}

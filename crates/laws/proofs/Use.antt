@@ -1,20 +1,20 @@
 -- Laws of use: what solve answers after each call. After an accepted, complete factor it accepts (Solvable, `accepted-solves`). Assumes nothing.
 use mathlib.Core.Path.{_≡_, refl, sym, ap, _∙_}
 use mathlib.Core.Logic.{_↔_}
-use mathlib.Core.Bool.{Bool, true, false, cond, _&&_}
+use mathlib.Core.Bool.{Bool, true, false, _&&_}
 use mathlib.Core.List.{List}
 use mathlib.Core.Option.{Option, none, some}
 use Prim.Native.Nat.{ℕ, zero, suc, _+_, _≤_, _<_}
 use native.Mathlib.Omega.{arith}
-use lib.Dec.{T, leb, ltb, eqb, le→leb}
-use lib.ListN.{length, getD, take, replicate, getD-replicate}
+use lib.Dec.{T, leb, eqb, le→leb}
+use lib.ListN.{length, getD, replicate}
 use lib.Seq.{getD-take}
 use lib.Ieee.{Float}
 use borrow.Author.Tests.{lt-ltb}
 use Rattle.statement.specs.Lists.{every}
 use Rattle.statement.specs.Input.{Matrix, columnsLimit, +0}
 use Rattle.statement.specs.Record.{emptyRecord}
-use Rattle.statement.specs.Shape.{Shape, supernodes, first, offset}
+use Rattle.statement.specs.Shape.{supernodes, first, offset}
 use Rattle.statement.specs.Answers.{test}
 use Rattle.statement.specs.Areas.{Areas}
 use Rattle.statement.specs.Calls.{analysis, recordOf, cleared, settled, analyse, factor}
@@ -25,9 +25,8 @@ use Rattle.statement.specs.declared.Order.{Order}
 use Rattle.statement.specs.declared.Record.{Record}
 use Rattle.statement.specs.declared.Stop.the-variants.{After}
 use Rattle.statement.specs.declared.Room.{Room}
-use Rattle.statement.specs.declared.Stage.the-variants.{Analysed, Partial, Full}
-use Rattle.laws.proofs.Bools.{and-both, and-intro, eqb-of, T-true, T-false, T-dec}
-use Rattle.laws.proofs.Checked.{Viewed, viewed, columns-end, starts-end, risingStarts, rows-parts}
+use Rattle.laws.proofs.Bools.{and-both, and-intro, eqb-of}
+use Rattle.laws.proofs.Checked.{viewed, columns-end, starts-end, risingStarts, rows-parts}
 
 -- number 11: b as it was, scratch zero
 abbrev pub noFactor : List Float → ℕ → ℕ → Solved

@@ -1,12 +1,12 @@
 -- One supernode as a walk of the lent lists meets it: places k and k + 1. Assumes nothing.
-use mathlib.Core.Path.{_≡_, refl, sym, ap, _∙_}
+use mathlib.Core.Path.{_≡_, refl, ap, _∙_}
 use mathlib.Core.List.{List, [], _∷_}
-use Prim.Native.Nat.{ℕ, zero, suc, _+_, _-_, _*_, _≤_, _<_}
+use Prim.Native.Nat.{ℕ, zero, suc, _+_, _-_, _≤_, _<_}
 use native.Mathlib.Omega.{arith}
 use native.Mathlib.Nat.{le-refl, sub-zero, suc-sub-suc, zero-sub}
 use native.Mathlib.Numerals.{add-one}
 use lib.ListN.{length, getD, take, drop}
-use lib.Seq.{slice, take-nil, drop-nil, length-slice}
+use lib.Seq.{slice, take-nil, length-slice}
 use Rattle.statement.specs.Shape.{Shape, supernodes, first, width, height, rowsOf, trapezoid, size, offset}
 use Rattle.laws.specs.Lent.{Framed, Walkable}
 use Rattle.laws.proofs.Checked.{climbs}

@@ -1,5 +1,5 @@
 -- 01, "Sizes at the edges": the rows marked *, as cases and what 01 says of each. Definitions only.
-use mathlib.Core.Bool.{false}
+use mathlib.Core.Bool.{Bool, true, false}
 use mathlib.Core.List.{List, [], _∷_, _++_, map}
 use Prim.Native.Nat.{ℕ, zero, suc, _+_, _*_}
 use lib.Ieee.{Float, binary64, add, sub, neg, mul, div, lt, ofBits, toBits, round, span, climb, odd, units}
@@ -22,7 +22,7 @@ use Rattle.statement.specs.Areas.{needs, short, held, flat}
 use Rattle.statement.specs.Solve.{Solved, factoredIn, shapeIn, fullRecord, permutes, risingColumns, goodSupernode, risingRows, sized, viewable, solvable, rowsIn, startIn, valuesIn, lessBelow, lessAbove, forwardAt, forward, backwardAt, backward, solution, solveFault, settledSolve, solve}
 use Rattle.statement.specs.Job.{hexDigit, hexValue, hex, valueFrom, frame, frameOf, noFrames, begun, withStored, withSide, finished, takes, next, atEnd, read, matrixOf, jobRoom, refusal, success, isAccepted, written}
 use Rattle.statement.specs.Job as jobs
-use Rattle.statement.specs.Calls.{analyse, analyseFault, structureRoom, inputFault, analysis, entryA, Settled, recordOf, areasOf, cleared, settled, later, factorNeeds, factorLater, orderOf, wrongPosition, stateAfter, factorFault, factor}
+use Rattle.statement.specs.Calls.{Analysis, analyse, analyseFault, structureRoom, inputFault, analysis, entryA, Settled, recordOf, areasOf, cleared, settled, later, factorNeeds, factorLater, orderOf, wrongPosition, stateAfter, factorFault, factor}
 use Rattle.statement.specs.declared.Original.{Original}
 use Rattle.statement.specs.declared.Answer.{Answer}
 use Rattle.statement.specs.declared.Answer.the-variants.{Accepted, OverCap, WrongOrder, WrongPivot}
@@ -41,13 +41,16 @@ pub data Case : Type 0 where
   factoring : Matrix → (cap : ℕ) → Order → (list : List ℕ) → Stop → Case
   solving : Matrix → (cap : ℕ) → (b : List Float) → Case
   rooting : Float → Case
+  weighing : Matrix → (supernode : ℕ) → Case
   running : (input : List ℕ) → Case
 
--- the answer, the record, the permutation, and the bits of the values and of the unknowns
+-- the answer, the record, the permutation, and the bits of the values and of the unknowns; of a column the bits of its pivot, of the
+-- threshold 1e-10·|A(j,j)| and of the pivot's root, and whether it passes
 pub data Result : Type 0 where
   called : Answer → Record → (permutation : List ℕ) → (values : List ℕ) → Result
   solution# : Answer → (unknowns : List ℕ) → Result
   rooted : ℕ → Result
+  weighed : (pivot threshold : ℕ) → (passed : Bool) → («root» : ℕ) → Result
   wrote : (output : List ℕ) → Result
 
 -- areas as long as a matrix needs whose L has `cap` entries
@@ -77,8 +80,17 @@ unfoldable solvedOf : Solved → Result
 unfolding bitsOf
 solvedOf s = solution# (s .answer) (bitsOf (s .b))
 
+-- the first column of supernode K, once the supernodes before it have run
+unfoldable weighedOf : Matrix → ℕ → Result
+weighedOf M K =
+    let X : Analysis = analysis M in
+    let A : ℕ → ℕ → Float = entryA M (X .permutation) in
+    let j : ℕ = shape.first (X .shape) K in
+    let d : Float = entry (X .shape) A (stateAfter M X Plain [] K .values) [] K j 0 in
+    weighed (toBits binary64 d) (toBits binary64 (mul binary64 tolerance (abs (A j j)))) (passes (A j j) d) (toBits binary64 (root d))
+
 unfoldable pub resultOf : Case → Result
-unfolding readOf factoredIn solvedOf bitsOf
+unfolding readOf factoredIn solvedOf bitsOf weighedOf
     jobs.job written isAccepted success refusal jobRoom matrixOf read atEnd next takes finished withSide withStored begun noFrames frameOf frame valueFrom hex hexValue hexDigit
     solve settledSolve solveFault solution backward backwardAt forward forwardAt lessAbove lessBelow valuesIn startIn rowsIn solvable viewable sized risingRows goodSupernode risingColumns permutes fullRecord shapeIn
     analyse analyseFault structureRoom inputFault analysis entryA recordOf areasOf cleared settled later factorNeeds factorLater orderOf wrongPosition stateAfter factorFault factor
@@ -98,6 +110,7 @@ resultOf (solving M cap b) =
     let o : Settled = factor M cap Plain [] End (room M cap) in
     solvedOf (solve (o .returned .«record») (factoredIn (o .areas)) b (M .n) (M .n))
 resultOf (rooting x) = rooted (toBits binary64 (root x))
+resultOf (weighing M K) = weighedOf M K
 resultOf (running i) = wrote (jobs.job i)
 
 -- ---- the matrices
@@ -170,6 +183,9 @@ one = 0x3FF0_0000_0000_0000
 abbrev two : ℕ
 two = 0x4000_0000_0000_0000
 
+abbrev four# : ℕ
+four# = 0x4010_0000_0000_0000
+
 unfoldable pub cases : List Case
 cases =
     factoring none′ 0 Plain [] End ∷
@@ -179,7 +195,9 @@ cases =
     solving job 3 (num 8 ∷ num 12 ∷ []) ∷
     factoring three 6 Plain [] End ∷
     factoring three 5 Plain [] End ∷
+    weighing (fan 2) 5 ∷
     factoring (fan 2) 11 Plain [] End ∷
+    weighing (fan 1) 5 ∷
     factoring (fan 1) 11 Plain [] End ∷
     analysing four 7 ∷
     factoring four 7 Plain [] End ∷
@@ -201,7 +219,9 @@ expected =
     called Accepted (record { state = Full; n = 3; supernodes = 1; rows = 3; updates = 0; tasks = 1; top = 0; entries = 6; work = 14 }) (0 ∷ 1 ∷ 2 ∷ [])
     (one ∷ one ∷ one ∷ one ∷ 0xBFF0_0000_0000_0000 ∷ one ∷ zeros# 5) ∷
     refused (OverCap 6 5) 3 ∷
+    weighed one one false one ∷
     refused (WrongPivot (col 5)) 6 ∷
+    weighed four# one true two ∷
     called Accepted (record { state = Full; n = 6; supernodes = 6; rows = 11; updates = 5; tasks = 1; top = 0; entries = 11; work = 21 }) (0 ∷ 1 ∷ 2 ∷ 3 ∷ 4 ∷ 5 ∷ [])
     (one ∷ toBits binary64 (num 99999) ∷ one ∷ toBits binary64 (num 447) ∷ one ∷ toBits binary64 (num 13) ∷ one ∷ toBits binary64 (num 4) ∷ one ∷ one ∷ two ∷ []) ∷
     called Accepted (record { state = Analysed; n = 4; supernodes = 4; rows = 7; updates = 3; tasks = 1; top = 0; entries = 7; work = 13 }) (1 ∷ 0 ∷ 2 ∷ 3 ∷ []) [] ∷

@@ -4,9 +4,9 @@ use mathlib.Core.List.{List}
 use Prim.Native.Nat.{ℕ}
 use lib.Ieee.{Float}
 use Rattle.statement.specs.Input.{Matrix}
-use Rattle.statement.specs.Calls.{Settled, analyse, Analyses, factor, Factors}
-use Rattle.statement.specs.Solve.{FactorAreas, Solved, solve, Solves, view, Views}
-use Rattle.statement.specs.Job.{Printed, job, answerIn, Works}
+use Rattle.statement.specs.Calls.{analyse, Analyses, factor, Factors}
+use Rattle.statement.specs.Solve.{FactorAreas, solve, Solves, view, Views}
+use Rattle.statement.specs.Job.{job, answerIn, Works}
 use Rattle.statement.specs.declared.Factored.{Factored}
 use Rattle.statement.specs.declared.Record.{Record}
 use Rattle.statement.specs.declared.Order.{Order}

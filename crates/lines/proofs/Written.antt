@@ -21,6 +21,7 @@ use Rattle.statement.specs.Answers.{number, details}
 use Rattle.statement.specs.declared.Answer.{Answer}
 use Rattle.statement.specs.Job.{hexDigit, hexValue, hex, valueFrom, refusal, success}
 use Rattle.areas.proofs.Lists.{getD-any}
+use Rattle.statement.specs.declared.Original.{Original}
 use Rattle.lines.specs.Placed.{placed, sizesLine, unknownLine, refusalLine}
 
 pub hex-length : (k x : ℕ) → length (hex k x) ≡ k
@@ -168,7 +169,7 @@ no-nan-same (fin s m e) h = tt
 pub sizes-length : (entries supernodes : ℕ) → length (sizesLine entries supernodes) ≡ 15
 sizes-length entries supernodes = simp (length-append, hex-length)
 
-pub unknown-length : (position : ℕ) (x : Float) → length (unknownLine position x) ≡ 23
+pub unknown-length : (position : Original) (x : Float) → length (unknownLine position x) ≡ 23
 unknown-length position x = simp (length-append, hex-length)
 
 pub refusal-is : (t d : List ℕ) (a : Answer) (k first second : ℕ) → t ≡ placed d 0 (refusalLine k first second) → k ≡ number a → first ≡ getD (details a) 0 0 → second ≡ getD (details a) 1 0
@@ -177,12 +178,12 @@ unfolding refusal
 refusal-is t d a k first second e p q r = (e ∙ rw (p, q, r), sym (simp (length-append, hex-length)))
 
 abbrev pub unknowns : List Float → ℕ → List ℕ
-unknowns x k = joined (λ i. unknownLine i (getD x i +0)) k
+unknowns x k = joined (λ i. unknownLine (record { 0 = i }) (getD x i +0)) k
 
 pub unknowns-length : (x : List Float) (k : ℕ) → length (unknowns x k) ≡ 23 * k
 unfolding joined
 unknowns-length x zero = refl
-unknowns-length x (suc k) = length-append (unknowns x k) (unknownLine k (getD x k +0)) ∙ (let a = unknowns-length x k in let b = unknown-length k (getD x k +0) in omega arith)
+unknowns-length x (suc k) = length-append (unknowns x k) (unknownLine (record { 0 = k }) (getD x k +0)) ∙ (let a = unknowns-length x k in let b = unknown-length (record { 0 = k }) (getD x k +0) in omega arith)
 
 pub success-length : (entries supernodes : ℕ) (x : List Float) → length (success entries supernodes x) ≡ 15 + 23 * length x
 unfolding success
@@ -201,12 +202,12 @@ unfolding placed joined
 writing-start d x h = record { is = sym (take-append-drop 15 d); place = omega arith; to = omega arith; len = refl; room = h }
 
 pub writing-more : (d : List ℕ) (x : List Float) (out : List ℕ) (at k : ℕ) (t : List ℕ) (z : Float) → Writing d x out at k → k < length x
-    → t ≡ placed out at (unknownLine k (getD x k z)) → length t ≡ length out → Writing d x t (at + 23) (k + 1)
+    → t ≡ placed out at (unknownLine (record { 0 = k }) (getD x k z)) → length t ≡ length out → Writing d x t (at + 23) (k + 1)
 unfolding joined
 writing-more d x out at k t z w h e l =
     let n = unknowns-length x k in
     record {
-      is = rw (add-one k) (placed-more d out t (unknowns x k) (unknownLine k (getD x k +0)) 15 at (w .is) (omega (arith, w .place)) (omega (arith, w .place, w .room)) (e ∙ ap (λ y. placed out at (unknownLine k y)) (getD-any x k z +0 h)));
+      is = rw (add-one k) (placed-more d out t (unknowns x k) (unknownLine (record { 0 = k }) (getD x k +0)) 15 at (w .is) (omega (arith, w .place)) (omega (arith, w .place, w .room)) (e ∙ ap (λ y. placed out at (unknownLine (record { 0 = k }) y)) (getD-any x k z +0 h)));
       place = omega (arith, w .place);
       to = omega arith;
       len = l ∙ w .len;

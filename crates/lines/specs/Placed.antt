@@ -4,6 +4,7 @@ use Prim.Native.Nat.{ℕ, _+_}
 use lib.ListN.{length, take, drop}
 use lib.Ieee.{Float, binary64, toBits}
 use Rattle.statement.specs.Job.{hex}
+use Rattle.statement.specs.declared.Original.{Original}
 
 -- d with s at the places from a
 unfoldable pub placed : List ℕ → ℕ → List ℕ → List ℕ
@@ -14,8 +15,8 @@ abbrev pub sizesLine : ℕ → ℕ → List ℕ
 sizesLine entries supernodes = hex 2 0x81 ++ hex 8 entries ++ hex 4 supernodes ++ (10 ∷ [])
 
 -- `82` position(4) bits(16)
-abbrev pub unknownLine : ℕ → Float → List ℕ
-unknownLine position x = hex 2 0x82 ++ hex 4 position ++ hex 16 (toBits binary64 x) ++ (10 ∷ [])
+abbrev pub unknownLine : Original → Float → List ℕ
+unknownLine position x = hex 2 0x82 ++ hex 4 (position .0) ++ hex 16 (toBits binary64 x) ++ (10 ∷ [])
 
 -- `8F` number(2) and two details(8 each)
 abbrev pub refusalLine : ℕ → ℕ → ℕ → List ℕ

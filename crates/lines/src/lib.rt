@@ -9,6 +9,7 @@ use answers::first_detail;
 use answers::number;
 use answers::second_detail;
 use statement::Answer;
+use statement::Original;
 
 // The byte of a digit.
 fn hex_digit(d: u64) -> u8
@@ -56,12 +57,12 @@ pub fn put_sizes(out: &mut [u8], entries: u64, supernodes: u64)
 }
 
 // Puts the line `82` at the places from `at`: 23 bytes.
-pub fn put_unknown(out: &mut [u8], at: usize, position: u64, x: f64)
+pub fn put_unknown(out: &mut [u8], at: usize, position: Original, x: f64)
     requires { ⌜ at + 23 ≤ length (now out) ⌝ }
     ensures { λ _. ⌜ now (out .exit) ≡ placed (now (out .entry)) at (unknownLine position x) ⌝ }
 {
     put_hex(out, at, 2, 0x82);
-    put_hex(out, at + 2, 4, position);
+    put_hex(out, at + 2, 4, position.0 as u64);
     put_hex(out, at + 6, 16, bits_of(x));
     out[at + 22] = 10;
 }
@@ -99,7 +100,7 @@ pub fn put_success(out: &mut [u8], entries: usize, supernodes: usize, x: &[f64])
     let mut at: usize = 15;
     let mut k: usize = 0;
     while k < x.len() {
-        put_unknown(out, at, k as u64, x[k]);
+        put_unknown(out, at, Original(k), x[k]);
         at += 23;
         k += 1;
     }

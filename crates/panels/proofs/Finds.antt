@@ -1,4 +1,4 @@
--- A search among lowerValue entries. Assumes nothing.
+-- A search among the stored entries of a lower column. Assumes nothing.
 use mathlib.Core.Path.{_≡_, sym, ap, _∙_}
 use mathlib.Core.Bool.{cond}
 use mathlib.Core.List.{List, _∷_}

@@ -1,1 +1,3 @@
-pub mod Promises
+pub mod First
+pub mod Third
+pub mod Second

@@ -11,6 +11,7 @@ use lib.Ieee.{Float}
 use Rattle.statement.specs.Lists.{has, bit, list}
 use Rattle.statement.specs.Shape.{Shape, parentOf}
 use Rattle.statement.specs.Run.{blocked, settle, fate, run}
+use Rattle.statement.specs.declared.Factored.{Factored}
 use Rattle.statement.specs.declared.Update.{Update}
 use Rattle.laws.specs.Lent.{laid}
 use Rattle.laws.specs.Lower.{lowerValue}
@@ -43,7 +44,7 @@ module _ (steps ns n a entries : ℕ) (F St R words₀ : List ℕ) (floats₀ va
   names p = getD words₀ (namesAt n + p) 0
 
   -- after the first p names
-  pub record Sofar (words : List ℕ) (floats values : List Float) (least p : ℕ) : Type 0 where
+  pub record Sofar (words : List ℕ) (floats values : List Float) (least : Factored) (p : ℕ) : Type 0 where
     pub is : Is S ns (run S A (fresh S (take entries values₀)) (list names p)) (take entries values) least words
     pub rest : drop (ownersAt n) words ≡ drop (ownersAt n) words₀
     pub matrix : take a floats ≡ take a floats₀
@@ -52,8 +53,8 @@ module _ (steps ns n a entries : ℕ) (F St R words₀ : List ℕ) (floats₀ va
     pub vlen : length values ≡ length values₀
 
   -- the same where there may be no names
-  pub record Going (words : List ℕ) (floats values : List Float) (least p : ℕ) : Type 0 where
-    pub idle : p ≡ 0 → (values ≡ values₀) × (least ≡ n)
+  pub record Going (words : List ℕ) (floats values : List Float) (least : Factored) (p : ℕ) : Type 0 where
+    pub idle : p ≡ 0 → (values ≡ values₀) × (least ≡ record { 0 = n })
     pub ran : 0 < steps → Sofar words floats values least p
     pub past : drop entries values ≡ drop entries values₀
 
@@ -68,7 +69,7 @@ module _ {steps ns n a entries : ℕ} {F St R groups : List ℕ} {us : List Upda
   abbrev ord : ℕ → ℕ
   ord = names steps ns n a entries F St R words₀ floats₀ values₀
 
-  pub going-none : Going steps ns n a entries F St R words₀ floats₀ values₀ words₀ floats₀ values₀ n 0
+  pub going-none : Going steps ns n a entries F St R words₀ floats₀ values₀ words₀ floats₀ values₀ (record { 0 = n }) 0
   unfolding run list
   going-none =
       record {
@@ -85,8 +86,8 @@ module _ {steps ns n a entries : ℕ} {F St R groups : List ℕ} {us : List Upda
         past = refl;
       }
 
-  module _ {words : List ℕ} {floats values : List Float} {least i : ℕ} (kept : Going steps ns n a entries F St R words₀ floats₀ values₀ words floats values least i) where
-    pub ended : i ≡ steps → RunLeft steps ns n a entries F St R words₀ words floats₀ values₀ values least
+  module _ {words : List ℕ} {floats values : List Float} {least : Factored} {i : ℕ} (kept : Going steps ns n a entries F St R words₀ floats₀ values₀ words floats values least i) where
+    pub ended : i ≡ steps → RunLeft steps n a entries F St R words₀ floats₀ values₀ values least
     ended e =
         record {
           idle = λ h. kept .idle (e ∙ h);
@@ -180,7 +181,7 @@ module _ {steps ns n a entries : ℕ} {F St R groups : List ℕ} {us : List Upda
             turn-asked = (due, known, fetched, omega (arith, so .vlen, ready .room))
 
             -- one more name
-            pub one-more : {r : ℕ} {words″ : List ℕ} {floats″ values″ : List Float} →
+            pub one-more : {r : Factored} {words″ : List ℕ} {floats″ values″ : List Float} →
                 (Turned (under n F St R (drop (parentsAt n) words′)) (lowerValue (drop (startsAt n) words′) (drop (rowsAt n) words′) (take a floats)) ns j a least r words′ words″ floats floats″ (take entries values) (take entries values″)) × (drop entries values″ ≡ drop entries values) →
                 length words″ ≡ length words′ → length floats″ ≡ length floats → length values″ ≡ length values →
                 Going steps ns n a entries F St R words₀ floats₀ values₀ words″ floats″ values″ r (suc i)

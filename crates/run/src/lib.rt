@@ -5,6 +5,7 @@ ghost use lib.ListN.{length};
 ghost use Rattle.updates.specs.Layout.{ownersAt};
 ghost use Rattle.turn.specs.Run.{RunReady, RunLeft};
 ghost use Rattle.run.specs.Fetch.{Brought};
+use statement::Factored;
 use statement::Update;
 use turn::group;
 use turn::group_end;
@@ -41,11 +42,11 @@ pub fn run(
     words: &mut [usize],
     floats: &mut [f64],
     values: &mut [f64],
-) -> usize
+) -> Factored
     requires { ⌜ (0 < steps → RunReady steps ns n a entries (now firsts) (now starts) (now rows) (now groups) (now us) (now words) (now floats) (now values)) ⌝ }
-    ensures { λ r. ⌜ RunLeft steps ns n a entries (now (firsts .entry)) (now (starts .entry)) (now (rows .entry)) (now (words .entry)) (now (words .exit)) (now (floats .entry)) (now (values .entry)) (now (values .exit)) r ⌝ }
+    ensures { λ r. ⌜ RunLeft steps n a entries (now (firsts .entry)) (now (starts .entry)) (now (rows .entry)) (now (words .entry)) (now (floats .entry)) (now (values .entry)) (now (values .exit)) r ⌝ }
 {
-    let mut least = n;
+    let mut least = Factored(n);
     let mut p = 0;
     while p < steps {
         let j = name(n, p, words);

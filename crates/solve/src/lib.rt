@@ -3,7 +3,7 @@ ghost use mathlib.Core.Path.{_≡_};
 ghost use Prim.Native.Nat.{ℕ, suc, _-_, _≤_, _<_};
 ghost use lib.ListN.{length, getD};
 ghost use Rattle.statement.specs.Shape.{offset};
-ghost use Rattle.statement.specs.Solve.{valuesIn, solve, view};
+ghost use Rattle.statement.specs.Solve.{valuesIn, solve, Solves, Views};
 ghost use Rattle.laws.specs.Lent.{lent, laid, Walkable};
 ghost use Rattle.solve.specs.Found.{Owned};
 use areas::clear_floats;
@@ -61,7 +61,7 @@ pub fn solve(
     floats: &mut [f64],
     b: &mut [f64],
 ) -> Answer
-    ensures { λ r. ⌜ record { answer = r; b = now (b .exit); words = now (words .exit); floats = now (floats .exit) } ≡ solve «record» (lent (now (permutation .entry)) (now (firsts .entry)) (now (starts .entry)) (now (rows .entry)) (now (values .entry))) (now (b .entry)) (length (now (words .entry))) (length (now (floats .entry))) ⌝ }
+    ensures { λ r. ⌜ Solves «record» (record { permutation = now (permutation .entry); firsts = now (firsts .entry); starts = now (starts .entry); rows = now (rows .entry); values = now (values .entry) }) (now (b .entry)) (length (now (words .entry))) (length (now (floats .entry))) (record { answer = r; b = now (b .exit); words = now (words .exit); floats = now (floats .exit) }) ⌝ }
 {
     let x = attempt(
         record,
@@ -123,7 +123,7 @@ pub fn column<'a>(
     values: &'a [f64],
     q: Factored,
 ) -> &'a [f64]
-    ensures { λ r. ⌜ now r ≡ view «record» (lent (now (permutation .entry)) (now (firsts .entry)) (now (starts .entry)) (now (rows .entry)) (now (values .entry))) q ⌝ }
+    ensures { λ r. ⌜ Views «record» (record { permutation = now (permutation .entry); firsts = now (firsts .entry); starts = now (starts .entry); rows = now (rows .entry); values = now (values .entry) }) q (now r) ⌝ }
 {
     if !viewable(record, permutation, firsts, starts, rows, values) {
         return &values[0..0];

@@ -189,7 +189,7 @@ module _ (S : Shape) {N : ℕ} (b : Rows S N) (J : ℕ) (h : J < N) (A : ℕ →
     unfolding answerOf leaves
     ended-broke own′ n x l en ex t = record { answer = ap (λ c. Broke (record { 0 = c })) ex ∙ ap answerOf (sym broke-is); values = zeros-is ∙ ap (leaves S v0 J) (sym broke-is) }
       where
-        broke-is : step S A v0 J ≡ broke (first S J + r)
+        broke-is : step S A v0 J ≡ broke (record { 0 = first S J + r })
         broke-is =
             rule.step-broke S A v0 J (b .tall J h) starts (λ p k. gather.at-place S b J p h k) (λ c k. b .own J c h k) (take (size S J) own) sized r (d .upto) ruled l
             (ap (passes (A (first S J + r) (first S J + r))) (pivot-is r l) ∙ d .stop l)

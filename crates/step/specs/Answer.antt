@@ -14,7 +14,7 @@ use Rattle.laws.specs.Lower.{Lower, Pattern}
 -- by the rules' outcome: the answer, and the values with J's stretch set, to zeros where a pivot breaks
 unfoldable pub answerOf : Out → StepAnswer
 answerOf (made s) = Made
-answerOf (broke c) = Broke (record { 0 = c })
+answerOf (broke c) = Broke c
 
 unfoldable pub leaves : Shape → List Float → ℕ → Out → List Float
 leaves S v J (made s) = put S v J s

@@ -30,7 +30,7 @@ pub fn set_places(place: &mut [usize], rows: &[usize], r0: usize, m: usize)
     }
 }
 
-// The n values from `at` are lowerValue at the places of their rows.
+// The n values from `at` are stored at the places of their rows.
 fn store_through(
     own: &mut [f64],
     base: usize,

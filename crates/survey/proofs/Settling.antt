@@ -17,7 +17,7 @@ use Rattle.statement.specs.declared.Answer.the-variants.{Accepted}
 use Rattle.statement.specs.declared.Outcome.{Outcome}
 use Rattle.statement.specs.declared.Record.{Record}
 use Rattle.statement.specs.declared.Room.{Room}
-use Rattle.laws.proofs.Exactly.{demand-one}
+use Rattle.laws.proofs.Exactly.{zero-accepted}
 use Rattle.survey.specs.Settles.{staleOf}
 
 -- what is returned with a
@@ -33,9 +33,6 @@ refused-areas r none R X h = absurd (h refl)
 refused-areas r (some a) R X h = refl
 
 -- ---- accepted or not
-
-zero-accepted : (a : Answer) → number a ≡ 0 → a ≡ Accepted
-zero-accepted a = demand-one .numbers a .0
 
 -- whatever follows from either
 pub accepted-or : {P : Type 0} (a : Answer) → (a ≡ Accepted → P) → (a ≢ Accepted → P) → P

@@ -2,7 +2,7 @@
 use mathlib.Core.Path.{_≡_, refl, sym, ap, ap₂, _∙_, subst}
 use mathlib.Core.Bool.{Bool, true, false, _||_}
 use mathlib.Core.List.{List, _∷_, _++_}
-use Prim.Native.Nat.{ℕ, zero, suc, _+_, _-_, _≤_, _<_, min}
+use Prim.Native.Nat.{ℕ, zero, suc, _+_, _-_, _≤_, _<_}
 use native.Mathlib.Omega.{arith}
 use native.Mathlib.Nat.{add-zero, add-suc, add-sub-of-le}
 use native.Mathlib.Decide.{ℕ-discrete}
@@ -14,7 +14,7 @@ use Rattle.laws.specs.Lent.{laid}
 use Rattle.statement.specs.Lists.{bit}
 use Rattle.statement.specs.Shape.{Shape, parentOf, rowsOf}
 use Rattle.statement.specs.Rules.{Out, made, broke, step}
-use Rattle.statement.specs.Run.{State, blocked, fateOf, settle, fate}
+use Rattle.statement.specs.Run.{State, blocked, fateOf, lesser, settle, fate}
 use Rattle.laws.proofs.Loops.{blocked-cons}
 use Rattle.updates.specs.Layout.{ownersAt, parentsAt}
 use Rattle.step.specs.declared.StepAnswer.{StepAnswer}
@@ -76,7 +76,7 @@ module _ (S : Shape) (ns J : ℕ) (k : J < ns) (up : (K : ℕ) → K < ns → K 
           f M m ∙
           sym (ap bit (blocked-cons S h M J ns k ∙ ap (λ b. blocked S h M ns || b) (ne-eqb (parentOf S J) M e) ∙ or-false (blocked S h M ns)))
 
-  module _ (A : ℕ → ℕ → Float) (s : State) (values : List Float) (least : ℕ) (words : List ℕ) (i : Is S ns s values least words) where
+  module _ (A : ℕ → ℕ → Float) (s : State) (values : List Float) (least : Factored) (words : List ℕ) (i : Is S ns s values least words) where
     pub skip : parentOf S J < length words → (getD words J 0 ≡ 0 → ⊥) → Is S ns (settle S s J (fate S A s J)) values least (set words (parentOf S J) 1)
     unfolding fate fateOf settle
     skip r n = rw (halted (s .halted) words (i .flags) n) (record { held = i .held; low = i .low; flags = mark (s .halted) words r (i .flags) })
@@ -92,13 +92,13 @@ module _ (S : Shape) (ns J : ℕ) (k : J < ns) (up : (K : ℕ) → K < ns → K 
       made-by (broke c) q v = absurd (let w : _≡_ {A = ℕ} 0 1 = cc q in omega arith)
 
       broke-by : (c : Factored) (o : Out) → Broke c ≡ answerOf o → values′ ≡ leaves S (s .values) J o → parentOf S J < length words′ →
-          Is S ns (settle S s J (fateOf false o)) values′ (min (c .0) least) (set words′ (parentOf S J) 1)
+          Is S ns (settle S s J (fateOf false o)) values′ (lesser c least) (set words′ (parentOf S J) 1)
       unfolding fateOf settle answerOf leaves
       broke-by c (made x) q v r = absurd (let w : _≡_ {A = ℕ} 0 1 = cc q in omega arith)
       broke-by c (broke x) q v r =
           record {
             held = v;
-            low = ap₂ min (let w : c .0 ≡ x = cc q in w) (i .low);
+            low = ap₂ lesser (let w : c ≡ x = cc q in w) (i .low);
             flags = mark (s .halted) words′ r (kept words′ b l e);
           }
 
@@ -110,12 +110,12 @@ module _ (S : Shape) (ns J : ℕ) (k : J < ns) (up : (K : ℕ) → K < ns → K 
       done t = let q = stepped-at Made t in rw (free (s .halted) words (i .flags) z) (made-by (step S A (s .values) J) (q .0) (q .1))
 
       pub fail : (c : Factored) → Stepped S A J values values′ (Broke c) → parentOf S J < length words′ →
-          Is S ns (settle S s J (fate S A s J)) values′ (min (c .0) least) (set words′ (parentOf S J) 1)
+          Is S ns (settle S s J (fate S A s J)) values′ (lesser c least) (set words′ (parentOf S J) 1)
       unfolding fate
       fail c t r = let q = stepped-at (Broke c) t in rw (free (s .halted) words (i .flags) z) (broke-by c (step S A (s .values) J) (q .0) (q .1) r)
 
 module _ (n : ℕ) (F St R : List ℕ) (ns a : ℕ) (groups words : List ℕ) (floats values : List Float) (entries : ℕ)
-    (t : Due n F St R ns a groups words floats entries) (A : ℕ → ℕ → Float) (J : ℕ) (k : J < ns) (least p : ℕ) (e : p ≡ getD words (parentsAt n + J) 0) where
+    (t : Due n F St R ns a groups words floats entries) (A : ℕ → ℕ → Float) (J : ℕ) (k : J < ns) (least : Factored) (p : ℕ) (e : p ≡ getD words (parentsAt n + J) 0) where
   abbrev S : Shape
   S = under n F St R (drop (parentsAt n) words)
 
@@ -157,7 +157,7 @@ module _ (n : ℕ) (F St R : List ℕ) (ns a : ℕ) (groups words : List ℕ) (f
           sized = m;
         }
 
-    pub broken : (x : StepAnswer) (c : Factored) (r : ℕ) (words″ : List ℕ) → r ≡ min (c .0) least → words″ ≡ set words′ p 1 → x ≡ Broke c → Stepped (laid n F St R) A J values values′ x →
+    pub broken : (x : StepAnswer) (c r : Factored) (words″ : List ℕ) → r ≡ lesser c least → words″ ≡ set words′ p 1 → x ≡ Broke c → Stepped (laid n F St R) A J values values′ x →
         Turned S A ns J a least r words words″ floats floats′ values values′
     broken x c r words″ e₁ e₂ h q =
         record {
@@ -168,7 +168,7 @@ module _ (n : ℕ) (F St R : List ℕ) (ns a : ℕ) (groups words : List ℕ) (f
         }
 
 -- the part of the values that a turn takes, put back
-pub over : (S : Shape) (A : ℕ → ℕ → Float) (ns J a least r : ℕ) (words words′ : List ℕ) (floats floats′ v w : List Float) (entries : ℕ) → entries ≤ length v → length w ≡ length (take entries v) →
+pub over : (S : Shape) (A : ℕ → ℕ → Float) (ns J a : ℕ) (least r : Factored) (words words′ : List ℕ) (floats floats′ v w : List Float) (entries : ℕ) → entries ≤ length v → length w ≡ length (take entries v) →
     Turned S A ns J a least r words words′ floats floats′ (take entries v) w →
     (Turned S A ns J a least r words words′ floats floats′ (take entries v) (take entries (w ++ drop entries v))) × (drop entries (w ++ drop entries v) ≡ drop entries v)
 over S A ns J a least r words words′ floats floats′ v w entries h l t = (rw (take-at w (drop entries v) entries long) t, drop-at w (drop entries v) entries long)

@@ -17,6 +17,7 @@ use Rattle.laws.proofs.Ranks.{list-length}
 use Rattle.laws.proofs.Stretches.{offset-mono}
 use Rattle.laws.proofs.Listing.{Spans}
 use Rattle.laws.proofs.Agree.{Alike, offset-agree, run-agree}
+use Rattle.statement.specs.declared.Factored.{Factored}
 use Rattle.statement.specs.declared.Update.{Update}
 use Rattle.updates.specs.Layout.{offsetsAt, parentsAt, namesAt, startsAt, rowsAt}
 use Rattle.step.specs.Ready.{from}
@@ -79,7 +80,7 @@ module _ (S : Shape) (b : Built S) (s : Spans S) (F St R U : List ℕ) (us : Lis
       }
 
   -- what the run leaves, at the whole structure
-  pub ran-of : (A : ℕ → ℕ → Float) (P names : List ℕ) (values values′ : List Float) (r : ℕ) → ((K : ℕ) → K < supernodes S → getD P K 0 ≡ parentOf S K) →
+  pub ran-of : (A : ℕ → ℕ → Float) (P names : List ℕ) (values values′ : List Float) (r : Factored) → ((K : ℕ) → K < supernodes S → getD P K 0 ≡ parentOf S K) →
       ((p : ℕ) → p < length names → getD names p 0 < supernodes S) → Ran (under (S .n) F St R P) A names values values′ r → Ran S A names values values′ r
   unfolding rowsOf
   ran-of A P names values values′ r parents known t = record { held = t .held ∙ ap (λ z. z .values) same; low = t .low ∙ ap (λ z. z .least) same }

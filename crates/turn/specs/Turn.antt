@@ -8,6 +8,7 @@ use Rattle.laws.specs.Lent.{laid}
 use Rattle.statement.specs.Lists.{bit}
 use Rattle.statement.specs.Shape.{Shape, offset}
 use Rattle.statement.specs.Run.{State, blocked, settle, fate}
+use Rattle.statement.specs.declared.Factored.{Factored}
 use Rattle.statement.specs.declared.Update.{Update}
 use Rattle.laws.specs.Lower.{Lower, Pattern}
 use Rattle.updates.specs.Layout.{updatesAt, ownersAt, offsetsAt, parentsAt, startsAt, rowsAt}
@@ -56,13 +57,13 @@ abbrev pub Flagged : Shape → ℕ → List ℕ → List ℕ → Type 0
 Flagged S ns h words = (J : ℕ) → J < ns → getD words J 0 ≡ bit (blocked S h J ns)
 
 -- values, least failing column and flags are those of the state s
-pub record Is (S : Shape) (ns : ℕ) (s : State) (values : List Float) (least : ℕ) (words : List ℕ) : Type 0 where
+pub record Is (S : Shape) (ns : ℕ) (s : State) (values : List Float) (least : Factored) (words : List ℕ) : Type 0 where
   pub held : values ≡ s .values
   pub low : least ≡ s .least
   pub flags : Flagged S ns (s .halted) words
 
 -- what one turn leaves: from any state to the next, and what is only read as it was
-pub record Turned (S : Shape) (A : ℕ → ℕ → Float) (ns J a least r : ℕ) (words words′ : List ℕ) (floats floats′ values values′ : List Float) : Type 0 where
+pub record Turned (S : Shape) (A : ℕ → ℕ → Float) (ns J a : ℕ) (least r : Factored) (words words′ : List ℕ) (floats floats′ values values′ : List Float) : Type 0 where
   pub next : (s : State) → Is S ns s values least words → Is S ns (settle S s J (fate S A s J)) values′ r words′
   pub rest : drop (ownersAt (S .n)) words′ ≡ drop (ownersAt (S .n)) words
   pub matrix : take a floats′ ≡ take a floats

@@ -1,13 +1,15 @@
 // One turn of the run: the step of a supernode, or the word to its parent that it was skipped or has failed. And what the run reads and
 // keeps among the words (crates/updates/specs/Layout.antt).
 ghost use mathlib.Core.Path.{_≡_};
-ghost use Prim.Native.Nat.{suc, _+_, _-_, _≤_, _<_, min};
+ghost use Prim.Native.Nat.{suc, _+_, _-_, _≤_, _<_};
 ghost use lib.ListN.{length, getD, set, take, drop};
+ghost use Rattle.statement.specs.Run.{lesser};
 ghost use Rattle.laws.specs.Lent.{laid};
 ghost use Rattle.laws.specs.Lower.{lowerValue};
 ghost use Rattle.updates.specs.Layout.{ownersAt, parentsAt, namesAt, startsAt, rowsAt};
 ghost use Rattle.step.specs.Answer.{Stepped};
 ghost use Rattle.turn.specs.Turn.{DueAt, Fetched, keptAt, under, Due, Turned};
+use answers::lesser;
 use statement::Factored;
 use statement::Update;
 use step::StepAnswer;
@@ -88,22 +90,19 @@ fn one(
 }
 
 // The supernode whose parent is p failed at the column c: its parent is flagged, and the least failing column kept.
-fn failed(words: &mut [usize], p: usize, c: Factored, least: usize) -> usize
+fn failed(words: &mut [usize], p: usize, c: Factored, least: Factored) -> Factored
     requires { ⌜ p < length (now words) ⌝ }
-    ensures { λ r. ⌜ (r ≡ min (c .0) least) × (now (words .exit) ≡ set (now (words .entry)) p 1) ⌝ }
+    ensures { λ r. ⌜ (r ≡ lesser c least) × (now (words .exit) ≡ set (now (words .entry)) p 1) ⌝ }
 {
     words[p] = 1;
-    if c.0 < least {
-        return c.0;
-    }
-    least
+    lesser(c, least)
 }
 
 // One turn: a supernode with a halted child is skipped, and it or a failing one flags its parent. The stretches are the first entries of the
 // values. The least failing column.
 pub fn turn(
     j: usize,
-    least: usize,
+    least: Factored,
     ns: usize,
     n: usize,
     a: usize,
@@ -115,7 +114,7 @@ pub fn turn(
     words: &mut [usize],
     floats: &mut [f64],
     values: &mut [f64],
-) -> usize
+) -> Factored
     requires { ⌜ (Due n (now firsts) (now starts) (now rows) ns a (now groups) (now words) (now floats) entries) × (j < ns) × (Fetched (laid n (now firsts) (now starts) (now rows)) j (now groups) (now words)) × (entries ≤ length (now values)) ⌝ }
     ensures { λ r. ⌜ (Turned (under n (now (firsts .entry)) (now (starts .entry)) (now (rows .entry)) (drop (parentsAt n) (now (words .entry)))) (lowerValue (drop (startsAt n) (now (words .entry))) (drop (rowsAt n) (now (words .entry))) (take a (now (floats .entry)))) ns j a least r (now (words .entry)) (now (words .exit)) (now (floats .entry)) (now (floats .exit)) (take entries (now (values .entry))) (take entries (now (values .exit)))) × (drop entries (now (values .exit)) ≡ drop entries (now (values .entry))) ⌝ }
 {

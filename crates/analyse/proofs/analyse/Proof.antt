@@ -2,10 +2,10 @@
 use Prim.Native.Nat.{_<_, _^_, _≤_, ℕ}
 use Rattle.analyse.specs.Lent.{lentStructure}
 use Rattle.statement.specs.Areas.{noUpdate}
-use Rattle.statement.specs.Calls.{analyse}
+use Rattle.statement.specs.Calls.{Analyses, analyse}
 use Rattle.statement.specs.Input.{matrix}
 use Rattle.survey.specs.Laid.{Found, Surveyed}
-use Rattle.survey.specs.Settles.{Settles, SettlesPlain, staleOf}
+use Rattle.survey.specs.Settles.{SettlesPlain, staleOf}
 use Rattle.updates.specs.Laying.{LaidOut, ToLay, written}
 use base.Fml.{GName, Lft, Share, fat, fdies, flft, froom, ftrue}
 use base.Logic.{SProp, emp, ent, fst∗, id⊢, via}
@@ -88,7 +88,7 @@ use Rattle.analyse.proofs.analyse.Code as code
 use Rattle.analyse.proofs.analyse.Code.Mir as body
 use Rattle.survey.proofs.Asking.{lay-asked}
 use Rattle.survey.proofs.Settling.{stale-fits}
-use Rattle.analyse.proofs.Outcomes.{found-after, plain-before, settles}
+use Rattle.analyse.proofs.Outcomes.{found-after, plain-before, settles, analyses}
 
 abbrev stayed : Stays (here.ended .signature .params) (here.ended .kept)
 stayed = (stay-none (λ _. usize) yes, (stay-none-slice (0 ∷ []) tt (plain (λ _. usize)) yes, (stay-none-slice (1 ∷ []) tt (plain (λ _. usize)) yes, (stay-none-slice (2 ∷ []) tt (plain (λ _. f64)) yes, (stay-none (λ _. usize) yes, (stay-slice (3 ∷ []) tt (plain (λ _. usize)), (stay-slice (4 ∷ []) tt (plain (λ _. usize)), (stay-slice (5 ∷ []) tt (plain (λ _. usize)), (stay-slice (6 ∷ []) tt (plain (λ _. usize)), (stay-slice (7 ∷ []) tt (plain (λ _. usize)), (stay-slice (8 ∷ []) tt (plain (λ _. usize)), (stay-slice (9 ∷ []) tt (plain (λ _. usize)), (stay-slice (10 ∷ []) tt (plain (λ _. usize)), (stay-slice (11 ∷ []) tt (plain (λ _. T-Update.the-row)), tt))))))))))))))
@@ -393,7 +393,7 @@ module _ {M : Type 1} (𝓤 : URA M) (H : Heap 𝓤) (A : Atoms 𝓤) (W : Given
 
   exits : (u1 : Findings) (r1 : Val) (is1 : Is T-Findings.the-row u1 (r1 ∷ [])) (c1-permutation : List ℕ) (c1-firsts : List ℕ) (c1-starts : List ℕ) (c1-groups : List ℕ) (c1-tasks : List ℕ) (c1-top : List ℕ) (c1-words : List ℕ) (c1-rows : List ℕ) (d1 : Surveyed (matrix n (input-starts) (input-rows) (input-values)) cap (lentStructure (length (permutation)) (length (firsts)) (length (starts)) (length (groups)) (length (tasks)) (length (top)) (length (words)) (length (rows)) (length updates)) u1 (c1-permutation) (c1-firsts) (c1-starts) (c1-groups) (c1-tasks) (c1-words) (c1-rows)) (same1-permutation : length c1-permutation ≡ length permutation) (same1-firsts : length c1-firsts ≡ length firsts) (same1-starts : length c1-starts ≡ length starts) (same1-groups : length c1-groups ≡ length groups) (same1-tasks : length c1-tasks ≡ length tasks) (same1-top : length c1-top ≡ length top) (same1-words : length c1-words ≡ length words) (same1-rows : length c1-rows ≡ length rows) (u2 : ℕ) (r2 : Val) (is2 : Is usize u2 (r2 ∷ [])) (d2 : u2 ≡ u1 .supernodes) (c3-words : List ℕ) (c3-updates : List Update) (d3 : LaidOut n u2 (input-starts) (input-rows) (c1-words) (c3-words) (updates) (c3-updates)) (same3-words : length c3-words ≡ length c1-words) (same3-updates : length c3-updates ≡ length updates) (u4 : Outcome) (r4 : Val) (is4 : Is T-Outcome.the-row u4 (r4 ∷ [])) (c4-permutation : List ℕ) (c4-firsts : List ℕ) (c4-starts : List ℕ) (c4-groups : List ℕ) (c4-tasks : List ℕ) (c4-top : List ℕ) (c4-words : List ℕ) (c4-rows : List ℕ) (d4 : SettlesPlain (analyse (matrix n (input-starts) (input-rows) (input-values)) cap (lentStructure (length (c1-permutation)) (length (c1-firsts)) (length (c1-starts)) (length (c1-groups)) (length (c1-tasks)) (length (c1-top)) (length (c3-words)) (length (c1-rows)) (length updates))) u4 (c4-permutation) (c4-firsts) (c4-starts) (c4-groups) (c4-tasks) (c4-top) (c4-words) (c4-rows)) (same4-permutation : length c4-permutation ≡ length c1-permutation) (same4-firsts : length c4-firsts ≡ length c1-firsts) (same4-starts : length c4-starts ≡ length c1-starts) (same4-groups : length c4-groups ≡ length c1-groups) (same4-tasks : length c4-tasks ≡ length c1-tasks) (same4-top : length c4-top ≡ length c1-top) (same4-words : length c4-words ≡ length c3-words) (same4-rows : length c4-rows ≡ length c1-rows) (u5 : ℕ) (r5 : Val) (is5 : Is usize u5 (r5 ∷ [])) (d5 : u5 ≡ staleOf (u4 .answer) (length updates)) (c6-updates : List Update) (d6 : c6-updates ≡ replicate u5 noUpdate ++ drop u5 (c3-updates)) (same6-updates : length c6-updates ≡ length c3-updates) → ent 𝓤 (⋆ 𝓤 H A (‵ (flft κ-input-starts q-input-starts) ∷ ‵ (flft κ-input-rows q-input-rows) ∷ ‵ (flft κ-input-values q-input-values) ∷ ‵ (flft κ-permutation q-permutation) ∷ ‵ (flft κ-firsts q-firsts) ∷ ‵ (flft κ-starts q-starts) ∷ ‵ (flft κ-groups q-groups) ∷ ‵ (flft κ-tasks q-tasks) ∷ ‵ (flft κ-top q-top) ∷ ‵ (flft κ-words q-words) ∷ ‵ (flft κ-rows q-rows) ∷ ‵ (flft κ-updates q-updates) ∷ ‵ (ShrSlice (named 0) κ-input-starts usize .own (ref-input-starts γ-input-starts input-starts) (sliceVal (b-input-starts, o-input-starts) (length input-starts) ∷ [])) ∷ ‵ (ShrSlice (named 1) κ-input-rows usize .own (ref-input-rows γ-input-rows input-rows) (sliceVal (b-input-rows, o-input-rows) (length input-rows) ∷ [])) ∷ ‵ (ShrSlice (named 2) κ-input-values f64 .own (ref-input-values γ-input-values input-values) (sliceVal (b-input-values, o-input-values) (length input-values) ∷ [])) ∷ ‵ (MutSlice (named 3) κ-permutation usize .own (ref-permutation γ-permutation c4-permutation) (sliceVal (b-permutation, o-permutation) (length permutation) ∷ [])) ∷ ‵ (MutSlice (named 4) κ-firsts usize .own (ref-firsts γ-firsts c4-firsts) (sliceVal (b-firsts, o-firsts) (length firsts) ∷ [])) ∷ ‵ (MutSlice (named 5) κ-starts usize .own (ref-starts γ-starts c4-starts) (sliceVal (b-starts, o-starts) (length starts) ∷ [])) ∷ ‵ (MutSlice (named 6) κ-groups usize .own (ref-groups γ-groups c4-groups) (sliceVal (b-groups, o-groups) (length groups) ∷ [])) ∷ ‵ (MutSlice (named 7) κ-tasks usize .own (ref-tasks γ-tasks c4-tasks) (sliceVal (b-tasks, o-tasks) (length tasks) ∷ [])) ∷ ‵ (MutSlice (named 8) κ-top usize .own (ref-top γ-top c4-top) (sliceVal (b-top, o-top) (length top) ∷ [])) ∷ ‵ (MutSlice (named 9) κ-words usize .own (ref-words γ-words c4-words) (sliceVal (b-words, o-words) (length words) ∷ [])) ∷ ‵ (MutSlice (named 10) κ-rows usize .own (ref-rows γ-rows c4-rows) (sliceVal (b-rows, o-rows) (length rows) ∷ [])) ∷ ‵ (MutSlice (named 11) κ-updates T-Update.the-row .own (ref-updates γ-updates c6-updates) (sliceVal (b-updates, o-updates) (length updates) ∷ [])) ∷ [])) (Post r4)
   exits u1 r1 is1 c1-permutation c1-firsts c1-starts c1-groups c1-tasks c1-top c1-words c1-rows d1 same1-permutation same1-firsts same1-starts same1-groups same1-tasks same1-top same1-words same1-rows u2 r2 is2 d2 c3-words c3-updates d3 same3-words same3-updates u4 r4 is4 c4-permutation c4-firsts c4-starts c4-groups c4-tasks c4-top c4-words c4-rows d4 same4-permutation same4-firsts same4-starts same4-groups same4-tasks same4-top same4-words same4-rows u5 r5 is5 d5 c6-updates d6 same6-updates =
-      let told : Settles (analyse (matrix n (input-starts) (input-rows) (input-values)) cap (lentStructure (length (permutation)) (length (firsts)) (length (starts)) (length (groups)) (length (tasks)) (length (top)) (length (words)) (length (rows)) (length (updates)))) u4 (c4-permutation) (c4-firsts) (c4-starts) (c4-groups) (c4-tasks) (c4-top) (c4-words) (c4-rows) (c6-updates) = settles (matrix n input-starts input-rows input-values) cap (lentStructure (length permutation) (length firsts) (length starts) (length groups) (length tasks) (length top) (length words) (length rows) (length updates)) refl refl d1 d2 d3 refl (plain-before (matrix n input-starts input-rows input-values) cap (length updates) same1-permutation same1-firsts same1-starts same1-groups same1-tasks same1-top (same3-words ∙ same1-words) same1-rows d4) same3-updates d5 d6 in qed W (‵ (flft κ-input-starts q-input-starts) ∷ ‵ (flft κ-input-rows q-input-rows) ∷ ‵ (flft κ-input-values q-input-values) ∷ ‵ (flft κ-permutation q-permutation) ∷ ‵ (flft κ-firsts q-firsts) ∷ ‵ (flft κ-starts q-starts) ∷ ‵ (flft κ-groups q-groups) ∷ ‵ (flft κ-tasks q-tasks) ∷ ‵ (flft κ-top q-top) ∷ ‵ (flft κ-words q-words) ∷ ‵ (flft κ-rows q-rows) ∷ ‵ (flft κ-updates q-updates) ∷ ‵ (ShrSlice (named 0) κ-input-starts usize .own (ref-input-starts γ-input-starts input-starts) (sliceVal (b-input-starts, o-input-starts) (length input-starts) ∷ [])) ∷ ‵ (ShrSlice (named 1) κ-input-rows usize .own (ref-input-rows γ-input-rows input-rows) (sliceVal (b-input-rows, o-input-rows) (length input-rows) ∷ [])) ∷ ‵ (ShrSlice (named 2) κ-input-values f64 .own (ref-input-values γ-input-values input-values) (sliceVal (b-input-values, o-input-values) (length input-values) ∷ [])) ∷ ‵ (MutSlice (named 3) κ-permutation usize .own (ref-permutation γ-permutation c4-permutation) (sliceVal (b-permutation, o-permutation) (length permutation) ∷ [])) ∷ ‵ (MutSlice (named 4) κ-firsts usize .own (ref-firsts γ-firsts c4-firsts) (sliceVal (b-firsts, o-firsts) (length firsts) ∷ [])) ∷ ‵ (MutSlice (named 5) κ-starts usize .own (ref-starts γ-starts c4-starts) (sliceVal (b-starts, o-starts) (length starts) ∷ [])) ∷ ‵ (MutSlice (named 6) κ-groups usize .own (ref-groups γ-groups c4-groups) (sliceVal (b-groups, o-groups) (length groups) ∷ [])) ∷ ‵ (MutSlice (named 7) κ-tasks usize .own (ref-tasks γ-tasks c4-tasks) (sliceVal (b-tasks, o-tasks) (length tasks) ∷ [])) ∷ ‵ (MutSlice (named 8) κ-top usize .own (ref-top γ-top c4-top) (sliceVal (b-top, o-top) (length top) ∷ [])) ∷ ‵ (MutSlice (named 9) κ-words usize .own (ref-words γ-words c4-words) (sliceVal (b-words, o-words) (length words) ∷ [])) ∷ ‵ (MutSlice (named 10) κ-rows usize .own (ref-rows γ-rows c4-rows) (sliceVal (b-rows, o-rows) (length rows) ∷ [])) ∷ ‵ (MutSlice (named 11) κ-updates T-Update.the-row .own (ref-updates γ-updates c6-updates) (sliceVal (b-updates, o-updates) (length updates) ∷ [])) ∷ []) ∵
+      let told : Analyses (matrix n (input-starts) (input-rows) (input-values)) cap (record { permutation = length (permutation); firsts = length (firsts); starts = length (starts); groups = length (groups); tasks = length (tasks); top = length (top); words = length (words); floats = 0; rows = length (rows); updates = length (updates); values = 0 }) (record { returned = u4; areas = record { permutation = c4-permutation; firsts = c4-firsts; starts = c4-starts; groups = c4-groups; tasks = c4-tasks; top = c4-top; words = c4-words; floats = []; rows = c4-rows; updates = c6-updates; values = [] } }) = analyses (matrix n input-starts input-rows input-values) cap (lentStructure (length permutation) (length firsts) (length starts) (length groups) (length tasks) (length top) (length words) (length rows) (length updates)) (settles (matrix n input-starts input-rows input-values) cap (lentStructure (length permutation) (length firsts) (length starts) (length groups) (length tasks) (length top) (length words) (length rows) (length updates)) refl refl d1 d2 d3 refl (plain-before (matrix n input-starts input-rows input-values) cap (length updates) same1-permutation same1-firsts same1-starts same1-groups same1-tasks same1-top (same3-words ∙ same1-words) same1-rows d4) same3-updates d5 d6) in qed W (‵ (flft κ-input-starts q-input-starts) ∷ ‵ (flft κ-input-rows q-input-rows) ∷ ‵ (flft κ-input-values q-input-values) ∷ ‵ (flft κ-permutation q-permutation) ∷ ‵ (flft κ-firsts q-firsts) ∷ ‵ (flft κ-starts q-starts) ∷ ‵ (flft κ-groups q-groups) ∷ ‵ (flft κ-tasks q-tasks) ∷ ‵ (flft κ-top q-top) ∷ ‵ (flft κ-words q-words) ∷ ‵ (flft κ-rows q-rows) ∷ ‵ (flft κ-updates q-updates) ∷ ‵ (ShrSlice (named 0) κ-input-starts usize .own (ref-input-starts γ-input-starts input-starts) (sliceVal (b-input-starts, o-input-starts) (length input-starts) ∷ [])) ∷ ‵ (ShrSlice (named 1) κ-input-rows usize .own (ref-input-rows γ-input-rows input-rows) (sliceVal (b-input-rows, o-input-rows) (length input-rows) ∷ [])) ∷ ‵ (ShrSlice (named 2) κ-input-values f64 .own (ref-input-values γ-input-values input-values) (sliceVal (b-input-values, o-input-values) (length input-values) ∷ [])) ∷ ‵ (MutSlice (named 3) κ-permutation usize .own (ref-permutation γ-permutation c4-permutation) (sliceVal (b-permutation, o-permutation) (length permutation) ∷ [])) ∷ ‵ (MutSlice (named 4) κ-firsts usize .own (ref-firsts γ-firsts c4-firsts) (sliceVal (b-firsts, o-firsts) (length firsts) ∷ [])) ∷ ‵ (MutSlice (named 5) κ-starts usize .own (ref-starts γ-starts c4-starts) (sliceVal (b-starts, o-starts) (length starts) ∷ [])) ∷ ‵ (MutSlice (named 6) κ-groups usize .own (ref-groups γ-groups c4-groups) (sliceVal (b-groups, o-groups) (length groups) ∷ [])) ∷ ‵ (MutSlice (named 7) κ-tasks usize .own (ref-tasks γ-tasks c4-tasks) (sliceVal (b-tasks, o-tasks) (length tasks) ∷ [])) ∷ ‵ (MutSlice (named 8) κ-top usize .own (ref-top γ-top c4-top) (sliceVal (b-top, o-top) (length top) ∷ [])) ∷ ‵ (MutSlice (named 9) κ-words usize .own (ref-words γ-words c4-words) (sliceVal (b-words, o-words) (length words) ∷ [])) ∷ ‵ (MutSlice (named 10) κ-rows usize .own (ref-rows γ-rows c4-rows) (sliceVal (b-rows, o-rows) (length rows) ∷ [])) ∷ ‵ (MutSlice (named 11) κ-updates T-Update.the-row .own (ref-updates γ-updates c6-updates) (sliceVal (b-updates, o-updates) (length updates) ∷ [])) ∷ []) ∵
       w-suffices ! _ (ends-at 𝓤 H A here.ended stayed (here.clauses 𝓤 H A mem run) W bound r4 u4 (tt, (tt, (tt, (tt, (tt, (c4-permutation, (c4-firsts, (c4-starts, (c4-groups, (c4-tasks, (c4-top, (c4-words, (c4-rows, (c6-updates, tt)))))))))))))) (tt, (tt, (tt, (tt, (tt, (same4-permutation ∙ same1-permutation, (same4-firsts ∙ same1-firsts, (same4-starts ∙ same1-starts, (same4-groups ∙ same1-groups, (same4-tasks ∙ same1-tasks, (same4-top ∙ same1-top, (same4-words ∙ same3-words ∙ same1-words, (same4-rows ∙ same1-rows, (same6-updates ∙ same3-updates, tt))))))))))))))) $ w-says ! told $
       w-nothing ! $ w-move ! (12 ∷ 0 ∷ []) $ w-join ! $ w-move ! (11 ∷ 0 ∷ []) $ w-join ! $ w-move ! (10 ∷ 0 ∷ []) $ w-join ! $ w-move ! (9 ∷ 0 ∷ []) $ w-join ! $ w-move ! (8 ∷ 0 ∷ []) $ w-join ! $ w-move ! (7 ∷ 0 ∷ []) $ w-join ! $ w-move ! (6 ∷ 0 ∷ []) $ w-join ! $ w-move ! (5 ∷ 0 ∷ []) $ w-join ! $ w-move ! (4 ∷ 0 ∷ []) $ w-join ! $ w-move ! (3 ∷ 0 ∷ []) $ w-join ! $ w-move ! (2 ∷ 0 ∷ []) $ w-join ! $ w-move ! (1 ∷ 0 ∷ []) $ w-join ! $ w-frame ! $
       w-nothing ! $ w-move ! (12 ∷ 0 ∷ []) $ w-fjoin ! $ w-move ! (11 ∷ 0 ∷ []) $ w-fjoin ! $ w-move ! (10 ∷ 0 ∷ []) $ w-fjoin ! $ w-move ! (9 ∷ 0 ∷ []) $ w-fjoin ! $ w-move ! (8 ∷ 0 ∷ []) $ w-fjoin ! $ w-move ! (7 ∷ 0 ∷ []) $ w-fjoin ! $ w-move ! (6 ∷ 0 ∷ []) $ w-fjoin ! $ w-move ! (5 ∷ 0 ∷ []) $ w-fjoin ! $ w-move ! (4 ∷ 0 ∷ []) $ w-fjoin ! $ w-owned ! usize (Is usize) (uint-makes 𝓤 H A W w64) cap _ (refl, fits-cap) $ w-fjoin ! $ w-move ! (3 ∷ 0 ∷ []) $ w-fjoin ! $ w-move ! (2 ∷ 0 ∷ []) $ w-fjoin ! $ w-move ! (1 ∷ 0 ∷ []) $ w-fjoin ! $ w-owned ! usize (Is usize) (uint-makes 𝓤 H A W w64) n _ (refl, fits-n) $ w-fjoin ! $ w-frame ! $

@@ -1,12 +1,10 @@
 -- `exports::nosebagged_analyse` meets its contract: a walk of its MIR that tools/walk.py wrote, cut after each call. Assumes nothing.
 use Prim.Native.Nat.{_<_, _^_, ℕ}
-use Rattle.analyse.specs.Lent.{lentStructure}
 use Rattle.crossing.specs.Words.{outcomeWords}
-use Rattle.exports.specs.Crossed.{AnalyseCrossed}
+use Rattle.exports.specs.Crossed.{Crossed}
 use Rattle.statement.specs.Answers.{number}
-use Rattle.statement.specs.Calls.{analyse}
+use Rattle.statement.specs.Calls.{Analyses, analyse}
 use Rattle.statement.specs.Input.{matrix}
-use Rattle.survey.specs.Settles.{Settles}
 use base.Fml.{GName, Lft, Share, fat, fdies, flft, froom, ftrue}
 use base.Logic.{SProp, emp, ent, fst∗, id⊢, via}
 use contract.Monad.{Fun, fact}
@@ -69,7 +67,7 @@ use Rattle.exports.proofs.nosebagged_analyse as here
 use Rattle.exports.proofs.nosebagged_analyse.Statement as stated
 use Rattle.exports.proofs.nosebagged_analyse.Code as code
 use Rattle.exports.proofs.nosebagged_analyse.Code.Mir as body
-use Rattle.exports.proofs.Crossing.{analysed}
+use Rattle.exports.proofs.Crossing.{crossed}
 
 abbrev stayed : Stays (here.ended .signature .params) (here.ended .kept)
 stayed = (stay-none (λ _. usize) yes, (stay-none-slice (0 ∷ []) tt (plain (λ _. usize)) yes, (stay-none-slice (1 ∷ []) tt (plain (λ _. usize)) yes, (stay-none-slice (2 ∷ []) tt (plain (λ _. f64)) yes, (stay-none (λ _. usize) yes, (stay-slice (3 ∷ []) tt (plain (λ _. usize)), (stay-slice (4 ∷ []) tt (plain (λ _. usize)), (stay-slice (5 ∷ []) tt (plain (λ _. usize)), (stay-slice (6 ∷ []) tt (plain (λ _. usize)), (stay-slice (7 ∷ []) tt (plain (λ _. usize)), (stay-slice (8 ∷ []) tt (plain (λ _. usize)), (stay-slice (9 ∷ []) tt (plain (λ _. usize)), (stay-slice (10 ∷ []) tt (plain (λ _. usize)), (stay-slice (11 ∷ []) tt (plain (λ _. T-Update.the-row)), (stay-ref (12 ∷ []) tt (ArrayOf (plain (λ _. usize)) (λ _. tt) 12), tt)))))))))))))))
@@ -279,9 +277,9 @@ module _ {M : Type 1} (𝓤 : URA M) (H : Heap 𝓤) (A : Atoms 𝓤) (W : Given
   abbrev ty35 : Ty
   ty35 = tyRef erased mut (tyArray (tyInt w64) 12)
 
-  exits : (u1 : Outcome) (r1 : Val) (is1 : Is T-Outcome.the-row u1 (r1 ∷ [])) (c1-permutation : List ℕ) (c1-firsts : List ℕ) (c1-starts : List ℕ) (c1-groups : List ℕ) (c1-tasks : List ℕ) (c1-top : List ℕ) (c1-words : List ℕ) (c1-rows : List ℕ) (c1-updates : List Update) (d1 : Settles (analyse (matrix n (input-starts) (input-rows) (input-values)) cap (lentStructure (length (permutation)) (length (firsts)) (length (starts)) (length (groups)) (length (tasks)) (length (top)) (length (words)) (length (rows)) (length (updates)))) u1 (c1-permutation) (c1-firsts) (c1-starts) (c1-groups) (c1-tasks) (c1-top) (c1-words) (c1-rows) (c1-updates)) (same1-permutation : length c1-permutation ≡ length permutation) (same1-firsts : length c1-firsts ≡ length firsts) (same1-starts : length c1-starts ≡ length starts) (same1-groups : length c1-groups ≡ length groups) (same1-tasks : length c1-tasks ≡ length tasks) (same1-top : length c1-top ≡ length top) (same1-words : length c1-words ≡ length words) (same1-rows : length c1-rows ≡ length rows) (same1-updates : length c1-updates ≡ length updates) (u2 : ℕ) (r2 : Val) (is2 : Is usize u2 (r2 ∷ [])) (c2-results : List ℕ) (d2 : (c2-results ≡ outcomeWords u1) × (u2 ≡ number (u1 .answer))) → ent 𝓤 (⋆ 𝓤 H A (‵ (flft κ-input-starts q-input-starts) ∷ ‵ (flft κ-input-rows q-input-rows) ∷ ‵ (flft κ-input-values q-input-values) ∷ ‵ (flft κ-permutation q-permutation) ∷ ‵ (flft κ-firsts q-firsts) ∷ ‵ (flft κ-starts q-starts) ∷ ‵ (flft κ-groups q-groups) ∷ ‵ (flft κ-tasks q-tasks) ∷ ‵ (flft κ-top q-top) ∷ ‵ (flft κ-words q-words) ∷ ‵ (flft κ-rows q-rows) ∷ ‵ (flft κ-updates q-updates) ∷ ‵ (flft κ-results q-results) ∷ ‵ (ShrSlice (named 0) κ-input-starts usize .own (ref-input-starts γ-input-starts input-starts) (sliceVal (b-input-starts, o-input-starts) (length input-starts) ∷ [])) ∷ ‵ (ShrSlice (named 1) κ-input-rows usize .own (ref-input-rows γ-input-rows input-rows) (sliceVal (b-input-rows, o-input-rows) (length input-rows) ∷ [])) ∷ ‵ (ShrSlice (named 2) κ-input-values f64 .own (ref-input-values γ-input-values input-values) (sliceVal (b-input-values, o-input-values) (length input-values) ∷ [])) ∷ ‵ (MutSlice (named 3) κ-permutation usize .own (ref-permutation γ-permutation c1-permutation) (sliceVal (b-permutation, o-permutation) (length permutation) ∷ [])) ∷ ‵ (MutSlice (named 4) κ-firsts usize .own (ref-firsts γ-firsts c1-firsts) (sliceVal (b-firsts, o-firsts) (length firsts) ∷ [])) ∷ ‵ (MutSlice (named 5) κ-starts usize .own (ref-starts γ-starts c1-starts) (sliceVal (b-starts, o-starts) (length starts) ∷ [])) ∷ ‵ (MutSlice (named 6) κ-groups usize .own (ref-groups γ-groups c1-groups) (sliceVal (b-groups, o-groups) (length groups) ∷ [])) ∷ ‵ (MutSlice (named 7) κ-tasks usize .own (ref-tasks γ-tasks c1-tasks) (sliceVal (b-tasks, o-tasks) (length tasks) ∷ [])) ∷ ‵ (MutSlice (named 8) κ-top usize .own (ref-top γ-top c1-top) (sliceVal (b-top, o-top) (length top) ∷ [])) ∷ ‵ (MutSlice (named 9) κ-words usize .own (ref-words γ-words c1-words) (sliceVal (b-words, o-words) (length words) ∷ [])) ∷ ‵ (MutSlice (named 10) κ-rows usize .own (ref-rows γ-rows c1-rows) (sliceVal (b-rows, o-rows) (length rows) ∷ [])) ∷ ‵ (MutSlice (named 11) κ-updates T-Update.the-row .own (ref-updates γ-updates c1-updates) (sliceVal (b-updates, o-updates) (length updates) ∷ [])) ∷ ‵ (MutRef (named 12) κ-results (Array usize 12) .own (ref-results γ-results c2-results) (s-results ∷ [])) ∷ [])) (Post r2)
+  exits : (u1 : Outcome) (r1 : Val) (is1 : Is T-Outcome.the-row u1 (r1 ∷ [])) (c1-permutation : List ℕ) (c1-firsts : List ℕ) (c1-starts : List ℕ) (c1-groups : List ℕ) (c1-tasks : List ℕ) (c1-top : List ℕ) (c1-words : List ℕ) (c1-rows : List ℕ) (c1-updates : List Update) (d1 : Analyses (matrix n (input-starts) (input-rows) (input-values)) cap (record { permutation = length (permutation); firsts = length (firsts); starts = length (starts); groups = length (groups); tasks = length (tasks); top = length (top); words = length (words); floats = 0; rows = length (rows); updates = length (updates); values = 0 }) (record { returned = u1; areas = record { permutation = c1-permutation; firsts = c1-firsts; starts = c1-starts; groups = c1-groups; tasks = c1-tasks; top = c1-top; words = c1-words; floats = []; rows = c1-rows; updates = c1-updates; values = [] } })) (same1-permutation : length c1-permutation ≡ length permutation) (same1-firsts : length c1-firsts ≡ length firsts) (same1-starts : length c1-starts ≡ length starts) (same1-groups : length c1-groups ≡ length groups) (same1-tasks : length c1-tasks ≡ length tasks) (same1-top : length c1-top ≡ length top) (same1-words : length c1-words ≡ length words) (same1-rows : length c1-rows ≡ length rows) (same1-updates : length c1-updates ≡ length updates) (u2 : ℕ) (r2 : Val) (is2 : Is usize u2 (r2 ∷ [])) (c2-results : List ℕ) (d2 : (c2-results ≡ outcomeWords u1) × (u2 ≡ number (u1 .answer))) → ent 𝓤 (⋆ 𝓤 H A (‵ (flft κ-input-starts q-input-starts) ∷ ‵ (flft κ-input-rows q-input-rows) ∷ ‵ (flft κ-input-values q-input-values) ∷ ‵ (flft κ-permutation q-permutation) ∷ ‵ (flft κ-firsts q-firsts) ∷ ‵ (flft κ-starts q-starts) ∷ ‵ (flft κ-groups q-groups) ∷ ‵ (flft κ-tasks q-tasks) ∷ ‵ (flft κ-top q-top) ∷ ‵ (flft κ-words q-words) ∷ ‵ (flft κ-rows q-rows) ∷ ‵ (flft κ-updates q-updates) ∷ ‵ (flft κ-results q-results) ∷ ‵ (ShrSlice (named 0) κ-input-starts usize .own (ref-input-starts γ-input-starts input-starts) (sliceVal (b-input-starts, o-input-starts) (length input-starts) ∷ [])) ∷ ‵ (ShrSlice (named 1) κ-input-rows usize .own (ref-input-rows γ-input-rows input-rows) (sliceVal (b-input-rows, o-input-rows) (length input-rows) ∷ [])) ∷ ‵ (ShrSlice (named 2) κ-input-values f64 .own (ref-input-values γ-input-values input-values) (sliceVal (b-input-values, o-input-values) (length input-values) ∷ [])) ∷ ‵ (MutSlice (named 3) κ-permutation usize .own (ref-permutation γ-permutation c1-permutation) (sliceVal (b-permutation, o-permutation) (length permutation) ∷ [])) ∷ ‵ (MutSlice (named 4) κ-firsts usize .own (ref-firsts γ-firsts c1-firsts) (sliceVal (b-firsts, o-firsts) (length firsts) ∷ [])) ∷ ‵ (MutSlice (named 5) κ-starts usize .own (ref-starts γ-starts c1-starts) (sliceVal (b-starts, o-starts) (length starts) ∷ [])) ∷ ‵ (MutSlice (named 6) κ-groups usize .own (ref-groups γ-groups c1-groups) (sliceVal (b-groups, o-groups) (length groups) ∷ [])) ∷ ‵ (MutSlice (named 7) κ-tasks usize .own (ref-tasks γ-tasks c1-tasks) (sliceVal (b-tasks, o-tasks) (length tasks) ∷ [])) ∷ ‵ (MutSlice (named 8) κ-top usize .own (ref-top γ-top c1-top) (sliceVal (b-top, o-top) (length top) ∷ [])) ∷ ‵ (MutSlice (named 9) κ-words usize .own (ref-words γ-words c1-words) (sliceVal (b-words, o-words) (length words) ∷ [])) ∷ ‵ (MutSlice (named 10) κ-rows usize .own (ref-rows γ-rows c1-rows) (sliceVal (b-rows, o-rows) (length rows) ∷ [])) ∷ ‵ (MutSlice (named 11) κ-updates T-Update.the-row .own (ref-updates γ-updates c1-updates) (sliceVal (b-updates, o-updates) (length updates) ∷ [])) ∷ ‵ (MutRef (named 12) κ-results (Array usize 12) .own (ref-results γ-results c2-results) (s-results ∷ [])) ∷ [])) (Post r2)
   exits u1 r1 is1 c1-permutation c1-firsts c1-starts c1-groups c1-tasks c1-top c1-words c1-rows c1-updates d1 same1-permutation same1-firsts same1-starts same1-groups same1-tasks same1-top same1-words same1-rows same1-updates u2 r2 is2 c2-results d2 =
-      let told : AnalyseCrossed (analyse (matrix n (input-starts) (input-rows) (input-values)) cap (lentStructure (length (permutation)) (length (firsts)) (length (starts)) (length (groups)) (length (tasks)) (length (top)) (length (words)) (length (rows)) (length (updates)))) u2 (c2-results) (c1-permutation) (c1-firsts) (c1-starts) (c1-groups) (c1-tasks) (c1-top) (c1-words) (c1-rows) (c1-updates) = analysed d1 (d2 .0) (d2 .1) in qed W (‵ (flft κ-input-starts q-input-starts) ∷ ‵ (flft κ-input-rows q-input-rows) ∷ ‵ (flft κ-input-values q-input-values) ∷ ‵ (flft κ-permutation q-permutation) ∷ ‵ (flft κ-firsts q-firsts) ∷ ‵ (flft κ-starts q-starts) ∷ ‵ (flft κ-groups q-groups) ∷ ‵ (flft κ-tasks q-tasks) ∷ ‵ (flft κ-top q-top) ∷ ‵ (flft κ-words q-words) ∷ ‵ (flft κ-rows q-rows) ∷ ‵ (flft κ-updates q-updates) ∷ ‵ (flft κ-results q-results) ∷ ‵ (ShrSlice (named 0) κ-input-starts usize .own (ref-input-starts γ-input-starts input-starts) (sliceVal (b-input-starts, o-input-starts) (length input-starts) ∷ [])) ∷ ‵ (ShrSlice (named 1) κ-input-rows usize .own (ref-input-rows γ-input-rows input-rows) (sliceVal (b-input-rows, o-input-rows) (length input-rows) ∷ [])) ∷ ‵ (ShrSlice (named 2) κ-input-values f64 .own (ref-input-values γ-input-values input-values) (sliceVal (b-input-values, o-input-values) (length input-values) ∷ [])) ∷ ‵ (MutSlice (named 3) κ-permutation usize .own (ref-permutation γ-permutation c1-permutation) (sliceVal (b-permutation, o-permutation) (length permutation) ∷ [])) ∷ ‵ (MutSlice (named 4) κ-firsts usize .own (ref-firsts γ-firsts c1-firsts) (sliceVal (b-firsts, o-firsts) (length firsts) ∷ [])) ∷ ‵ (MutSlice (named 5) κ-starts usize .own (ref-starts γ-starts c1-starts) (sliceVal (b-starts, o-starts) (length starts) ∷ [])) ∷ ‵ (MutSlice (named 6) κ-groups usize .own (ref-groups γ-groups c1-groups) (sliceVal (b-groups, o-groups) (length groups) ∷ [])) ∷ ‵ (MutSlice (named 7) κ-tasks usize .own (ref-tasks γ-tasks c1-tasks) (sliceVal (b-tasks, o-tasks) (length tasks) ∷ [])) ∷ ‵ (MutSlice (named 8) κ-top usize .own (ref-top γ-top c1-top) (sliceVal (b-top, o-top) (length top) ∷ [])) ∷ ‵ (MutSlice (named 9) κ-words usize .own (ref-words γ-words c1-words) (sliceVal (b-words, o-words) (length words) ∷ [])) ∷ ‵ (MutSlice (named 10) κ-rows usize .own (ref-rows γ-rows c1-rows) (sliceVal (b-rows, o-rows) (length rows) ∷ [])) ∷ ‵ (MutSlice (named 11) κ-updates T-Update.the-row .own (ref-updates γ-updates c1-updates) (sliceVal (b-updates, o-updates) (length updates) ∷ [])) ∷ ‵ (MutRef (named 12) κ-results (Array usize 12) .own (ref-results γ-results c2-results) (s-results ∷ [])) ∷ []) ∵
+      let told : Crossed (analyse (matrix n (input-starts) (input-rows) (input-values)) cap (record { permutation = length (permutation); firsts = length (firsts); starts = length (starts); groups = length (groups); tasks = length (tasks); top = length (top); words = length (words); floats = 0; rows = length (rows); updates = length (updates); values = 0 })) u2 (c2-results) (record { permutation = c1-permutation; firsts = c1-firsts; starts = c1-starts; groups = c1-groups; tasks = c1-tasks; top = c1-top; words = c1-words; floats = []; rows = c1-rows; updates = c1-updates; values = [] }) = crossed d1 (d2 .0) (d2 .1) in qed W (‵ (flft κ-input-starts q-input-starts) ∷ ‵ (flft κ-input-rows q-input-rows) ∷ ‵ (flft κ-input-values q-input-values) ∷ ‵ (flft κ-permutation q-permutation) ∷ ‵ (flft κ-firsts q-firsts) ∷ ‵ (flft κ-starts q-starts) ∷ ‵ (flft κ-groups q-groups) ∷ ‵ (flft κ-tasks q-tasks) ∷ ‵ (flft κ-top q-top) ∷ ‵ (flft κ-words q-words) ∷ ‵ (flft κ-rows q-rows) ∷ ‵ (flft κ-updates q-updates) ∷ ‵ (flft κ-results q-results) ∷ ‵ (ShrSlice (named 0) κ-input-starts usize .own (ref-input-starts γ-input-starts input-starts) (sliceVal (b-input-starts, o-input-starts) (length input-starts) ∷ [])) ∷ ‵ (ShrSlice (named 1) κ-input-rows usize .own (ref-input-rows γ-input-rows input-rows) (sliceVal (b-input-rows, o-input-rows) (length input-rows) ∷ [])) ∷ ‵ (ShrSlice (named 2) κ-input-values f64 .own (ref-input-values γ-input-values input-values) (sliceVal (b-input-values, o-input-values) (length input-values) ∷ [])) ∷ ‵ (MutSlice (named 3) κ-permutation usize .own (ref-permutation γ-permutation c1-permutation) (sliceVal (b-permutation, o-permutation) (length permutation) ∷ [])) ∷ ‵ (MutSlice (named 4) κ-firsts usize .own (ref-firsts γ-firsts c1-firsts) (sliceVal (b-firsts, o-firsts) (length firsts) ∷ [])) ∷ ‵ (MutSlice (named 5) κ-starts usize .own (ref-starts γ-starts c1-starts) (sliceVal (b-starts, o-starts) (length starts) ∷ [])) ∷ ‵ (MutSlice (named 6) κ-groups usize .own (ref-groups γ-groups c1-groups) (sliceVal (b-groups, o-groups) (length groups) ∷ [])) ∷ ‵ (MutSlice (named 7) κ-tasks usize .own (ref-tasks γ-tasks c1-tasks) (sliceVal (b-tasks, o-tasks) (length tasks) ∷ [])) ∷ ‵ (MutSlice (named 8) κ-top usize .own (ref-top γ-top c1-top) (sliceVal (b-top, o-top) (length top) ∷ [])) ∷ ‵ (MutSlice (named 9) κ-words usize .own (ref-words γ-words c1-words) (sliceVal (b-words, o-words) (length words) ∷ [])) ∷ ‵ (MutSlice (named 10) κ-rows usize .own (ref-rows γ-rows c1-rows) (sliceVal (b-rows, o-rows) (length rows) ∷ [])) ∷ ‵ (MutSlice (named 11) κ-updates T-Update.the-row .own (ref-updates γ-updates c1-updates) (sliceVal (b-updates, o-updates) (length updates) ∷ [])) ∷ ‵ (MutRef (named 12) κ-results (Array usize 12) .own (ref-results γ-results c2-results) (s-results ∷ [])) ∷ []) ∵
       w-suffices ! _ (ends-at 𝓤 H A here.ended stayed (here.clauses 𝓤 H A mem run) W bound r2 u2 (tt, (tt, (tt, (tt, (tt, (c1-permutation, (c1-firsts, (c1-starts, (c1-groups, (c1-tasks, (c1-top, (c1-words, (c1-rows, (c1-updates, (c2-results, tt))))))))))))))) (tt, (tt, (tt, (tt, (tt, (same1-permutation, (same1-firsts, (same1-starts, (same1-groups, (same1-tasks, (same1-top, (same1-words, (same1-rows, (same1-updates, (tt, tt)))))))))))))))) $ w-says ! told $
       w-nothing ! $ w-move ! (13 ∷ 0 ∷ []) $ w-join ! $ w-move ! (12 ∷ 0 ∷ []) $ w-join ! $ w-move ! (11 ∷ 0 ∷ []) $ w-join ! $ w-move ! (10 ∷ 0 ∷ []) $ w-join ! $ w-move ! (9 ∷ 0 ∷ []) $ w-join ! $ w-move ! (8 ∷ 0 ∷ []) $ w-join ! $ w-move ! (7 ∷ 0 ∷ []) $ w-join ! $ w-move ! (6 ∷ 0 ∷ []) $ w-join ! $ w-move ! (5 ∷ 0 ∷ []) $ w-join ! $ w-move ! (4 ∷ 0 ∷ []) $ w-join ! $ w-move ! (3 ∷ 0 ∷ []) $ w-join ! $ w-move ! (2 ∷ 0 ∷ []) $ w-join ! $ w-move ! (1 ∷ 0 ∷ []) $ w-join ! $ w-frame ! $
       w-nothing ! $ w-move ! (13 ∷ 0 ∷ []) $ w-fjoin ! $ w-move ! (12 ∷ 0 ∷ []) $ w-fjoin ! $ w-move ! (11 ∷ 0 ∷ []) $ w-fjoin ! $ w-move ! (10 ∷ 0 ∷ []) $ w-fjoin ! $ w-move ! (9 ∷ 0 ∷ []) $ w-fjoin ! $ w-move ! (8 ∷ 0 ∷ []) $ w-fjoin ! $ w-move ! (7 ∷ 0 ∷ []) $ w-fjoin ! $ w-move ! (6 ∷ 0 ∷ []) $ w-fjoin ! $ w-move ! (5 ∷ 0 ∷ []) $ w-fjoin ! $ w-move ! (4 ∷ 0 ∷ []) $ w-fjoin ! $ w-owned ! usize (Is usize) (uint-makes 𝓤 H A W w64) cap _ (refl, fits-cap) $ w-fjoin ! $ w-move ! (3 ∷ 0 ∷ []) $ w-fjoin ! $ w-move ! (2 ∷ 0 ∷ []) $ w-fjoin ! $ w-move ! (1 ∷ 0 ∷ []) $ w-fjoin ! $ w-owned ! usize (Is usize) (uint-makes 𝓤 H A W w64) n _ (refl, fits-n) $ w-fjoin ! $ w-frame ! $
@@ -301,7 +299,7 @@ module _ {M : Type 1} (𝓤 : URA M) (H : Heap 𝓤) (A : Atoms 𝓤) (W : Given
     asked1 ν1-5 δ1-5 ν1-6 δ1-6 ν1-7 δ1-7 ν1-8 δ1-8 ν1-9 δ1-9 ν1-10 δ1-10 ν1-11 δ1-11 ν1-12 δ1-12 ν1-13 δ1-13 =
         qed W ((‵ (flft (κ-input-starts) q-input-starts) ⊛ ‵ (flft (κ-input-rows) q-input-rows) ⊛ ‵ (flft (κ-input-values) q-input-values) ⊛ ‵ (flft (ν1-5 ∷ []) fullShare) ⊛ ‵ (flft (ν1-6 ∷ []) fullShare) ⊛ ‵ (flft (ν1-7 ∷ []) fullShare) ⊛ ‵ (flft (ν1-8 ∷ []) fullShare) ⊛ ‵ (flft (ν1-9 ∷ []) fullShare) ⊛ ‵ (flft (ν1-10 ∷ []) fullShare) ⊛ ‵ (flft (ν1-11 ∷ []) fullShare) ⊛ ‵ (flft (ν1-12 ∷ []) fullShare) ⊛ ‵ (flft (ν1-13 ∷ []) fullShare) ⊛ ‵ ftrue) ∷ ‵ (owns (usize ∷ ShrSlice (named 0) (κ-input-starts) usize ∷ ShrSlice (named 1) (κ-input-rows) usize ∷ ShrSlice (named 2) (κ-input-values) f64 ∷ usize ∷ MutSlice (named 3) (ν1-5 ∷ []) usize ∷ MutSlice (named 4) (ν1-6 ∷ []) usize ∷ MutSlice (named 5) (ν1-7 ∷ []) usize ∷ MutSlice (named 6) (ν1-8 ∷ []) usize ∷ MutSlice (named 7) (ν1-9 ∷ []) usize ∷ MutSlice (named 8) (ν1-10 ∷ []) usize ∷ MutSlice (named 9) (ν1-11 ∷ []) usize ∷ MutSlice (named 10) (ν1-12 ∷ []) usize ∷ MutSlice (named 11) (ν1-13 ∷ []) T-Update.the-row ∷ []) (n, (ref-input-starts γ-input-starts input-starts, (ref-input-rows γ-input-rows input-rows, (ref-input-values γ-input-values input-values, (cap, (ref-permutation δ1-5 permutation, (ref-firsts δ1-6 firsts, (ref-starts δ1-7 starts, (ref-groups δ1-8 groups, (ref-tasks δ1-9 tasks, (ref-top δ1-10 top, (ref-words δ1-11 words, (ref-rows δ1-12 rows, (ref-updates δ1-13 updates, tt)))))))))))))) (vint w64 n ∷ [], (s-input-starts ∷ [], (s-input-rows ∷ [], (s-input-values ∷ [], (vint w64 cap ∷ [], (s-permutation ∷ [], (s-firsts ∷ [], (s-starts ∷ [], (s-groups ∷ [], (s-tasks ∷ [], (s-top ∷ [], (s-words ∷ [], (s-rows ∷ [], (s-updates ∷ [], tt))))))))))))))) ∷ []) ∵ w-join ! $ w-frame ! $ done !
 
-    asked2 : (u1 : Outcome) (r1 : Val) (is1 : Is T-Outcome.the-row u1 (r1 ∷ [])) (c1-permutation : List ℕ) (c1-firsts : List ℕ) (c1-starts : List ℕ) (c1-groups : List ℕ) (c1-tasks : List ℕ) (c1-top : List ℕ) (c1-words : List ℕ) (c1-rows : List ℕ) (c1-updates : List Update) (d1 : Settles (analyse (matrix n (input-starts) (input-rows) (input-values)) cap (lentStructure (length (permutation)) (length (firsts)) (length (starts)) (length (groups)) (length (tasks)) (length (top)) (length (words)) (length (rows)) (length (updates)))) u1 (c1-permutation) (c1-firsts) (c1-starts) (c1-groups) (c1-tasks) (c1-top) (c1-words) (c1-rows) (c1-updates)) (same1-permutation : length c1-permutation ≡ length permutation) (same1-firsts : length c1-firsts ≡ length firsts) (same1-starts : length c1-starts ≡ length starts) (same1-groups : length c1-groups ≡ length groups) (same1-tasks : length c1-tasks ≡ length tasks) (same1-top : length c1-top ≡ length top) (same1-words : length c1-words ≡ length words) (same1-rows : length c1-rows ≡ length rows) (same1-updates : length c1-updates ≡ length updates) (ν2-1 : ℕ) (δ2-1 : GName) → ent 𝓤 (onEntry 𝓤 H A f-cross.signature (ν2-1 ∷ [], tt) (fullShare, tt) (u1, (ref-results δ2-1 results, tt)) (r1 ∷ [], (s-results ∷ [], tt))) (C-cross 𝓤 H A mem run .pre (((ν2-1 ∷ [], tt), (fullShare, tt), tt, (u1, (ref-results δ2-1 results, tt)), (r1 ∷ [], (s-results ∷ [], tt))), tt))
+    asked2 : (u1 : Outcome) (r1 : Val) (is1 : Is T-Outcome.the-row u1 (r1 ∷ [])) (c1-permutation : List ℕ) (c1-firsts : List ℕ) (c1-starts : List ℕ) (c1-groups : List ℕ) (c1-tasks : List ℕ) (c1-top : List ℕ) (c1-words : List ℕ) (c1-rows : List ℕ) (c1-updates : List Update) (d1 : Analyses (matrix n (input-starts) (input-rows) (input-values)) cap (record { permutation = length (permutation); firsts = length (firsts); starts = length (starts); groups = length (groups); tasks = length (tasks); top = length (top); words = length (words); floats = 0; rows = length (rows); updates = length (updates); values = 0 }) (record { returned = u1; areas = record { permutation = c1-permutation; firsts = c1-firsts; starts = c1-starts; groups = c1-groups; tasks = c1-tasks; top = c1-top; words = c1-words; floats = []; rows = c1-rows; updates = c1-updates; values = [] } })) (same1-permutation : length c1-permutation ≡ length permutation) (same1-firsts : length c1-firsts ≡ length firsts) (same1-starts : length c1-starts ≡ length starts) (same1-groups : length c1-groups ≡ length groups) (same1-tasks : length c1-tasks ≡ length tasks) (same1-top : length c1-top ≡ length top) (same1-words : length c1-words ≡ length words) (same1-rows : length c1-rows ≡ length rows) (same1-updates : length c1-updates ≡ length updates) (ν2-1 : ℕ) (δ2-1 : GName) → ent 𝓤 (onEntry 𝓤 H A f-cross.signature (ν2-1 ∷ [], tt) (fullShare, tt) (u1, (ref-results δ2-1 results, tt)) (r1 ∷ [], (s-results ∷ [], tt))) (C-cross 𝓤 H A mem run .pre (((ν2-1 ∷ [], tt), (fullShare, tt), tt, (u1, (ref-results δ2-1 results, tt)), (r1 ∷ [], (s-results ∷ [], tt))), tt))
     asked2 u1 r1 is1 c1-permutation c1-firsts c1-starts c1-groups c1-tasks c1-top c1-words c1-rows c1-updates d1 same1-permutation same1-firsts same1-starts same1-groups same1-tasks same1-top same1-words same1-rows same1-updates ν2-1 δ2-1 =
         qed W ((‵ (flft (ν2-1 ∷ []) fullShare) ⊛ ‵ ftrue) ∷ ‵ (owns (T-Outcome.the-row ∷ MutRef (named 0) (ν2-1 ∷ []) (Array usize 12) ∷ []) (u1, (ref-results δ2-1 results, tt)) (r1 ∷ [], (s-results ∷ [], tt))) ∷ []) ∵ w-join ! $ w-frame ! $ done !
 
@@ -318,7 +316,7 @@ module _ {M : Type 1} (𝓤 : URA M) (H : Heap 𝓤) (A : Atoms 𝓤) (W : Given
       abbrev dying : List (Item 𝓤)
       dying = ‵ (fdies ty0 l0) ∷ ‵ (fdies ty1 l1) ∷ ‵ (fdies ty2 l2) ∷ ‵ (fdies ty3 l3) ∷ ‵ (fdies ty4 l4) ∷ ‵ (fdies ty5 l5) ∷ ‵ (fdies ty6 l6) ∷ ‵ (fdies ty7 l7) ∷ ‵ (fdies ty8 l8) ∷ ‵ (fdies ty9 l9) ∷ ‵ (fdies ty10 l10) ∷ ‵ (fdies ty11 l11) ∷ ‵ (fdies ty12 l12) ∷ ‵ (fdies ty13 l13) ∷ ‵ (fdies ty14 l14) ∷ ‵ (fdies ty15 l15) ∷ ‵ (fdies ty16 l16) ∷ ‵ (fdies ty17 l17) ∷ ‵ (fdies ty18 l18) ∷ ‵ (fdies ty19 l19) ∷ ‵ (fdies ty20 l20) ∷ ‵ (fdies ty21 l21) ∷ ‵ (fdies ty22 l22) ∷ ‵ (fdies ty23 l23) ∷ ‵ (fdies ty24 l24) ∷ ‵ (fdies ty25 l25) ∷ ‵ (fdies ty26 l26) ∷ ‵ (fdies ty27 l27) ∷ ‵ (fdies ty28 l28) ∷ ‵ (fdies ty29 l29) ∷ ‵ (fdies ty30 l30) ∷ ‵ (fdies ty31 l31) ∷ ‵ (fdies ty32 l32) ∷ ‵ (fdies ty33 l33) ∷ ‵ (fdies ty34 l34) ∷ ‵ (fdies ty35 l35) ∷ []
 
-      after2 : (u1 : Outcome) (r1 : Val) (is1 : Is T-Outcome.the-row u1 (r1 ∷ [])) (c1-permutation : List ℕ) (c1-firsts : List ℕ) (c1-starts : List ℕ) (c1-groups : List ℕ) (c1-tasks : List ℕ) (c1-top : List ℕ) (c1-words : List ℕ) (c1-rows : List ℕ) (c1-updates : List Update) (d1 : Settles (analyse (matrix n (input-starts) (input-rows) (input-values)) cap (lentStructure (length (permutation)) (length (firsts)) (length (starts)) (length (groups)) (length (tasks)) (length (top)) (length (words)) (length (rows)) (length (updates)))) u1 (c1-permutation) (c1-firsts) (c1-starts) (c1-groups) (c1-tasks) (c1-top) (c1-words) (c1-rows) (c1-updates)) (same1-permutation : length c1-permutation ≡ length permutation) (same1-firsts : length c1-firsts ≡ length firsts) (same1-starts : length c1-starts ≡ length starts) (same1-groups : length c1-groups ≡ length groups) (same1-tasks : length c1-tasks ≡ length tasks) (same1-top : length c1-top ≡ length top) (same1-words : length c1-words ≡ length words) (same1-rows : length c1-rows ≡ length rows) (same1-updates : length c1-updates ≡ length updates) (u2 : ℕ) (r2 : Val) (is2 : Is usize u2 (r2 ∷ [])) (c2-results : List ℕ) (d2 : (c2-results ≡ outcomeWords u1) × (u2 ≡ number (u1 .answer))) → Sq W (‵ (ShrSlice (named 0) κ-input-starts usize .own (ref-input-starts γ-input-starts input-starts) (sliceVal (b-input-starts, o-input-starts) (length input-starts) ∷ [])) ∷ ‵ (ShrSlice (named 1) κ-input-rows usize .own (ref-input-rows γ-input-rows input-rows) (sliceVal (b-input-rows, o-input-rows) (length input-rows) ∷ [])) ∷ ‵ (ShrSlice (named 2) κ-input-values f64 .own (ref-input-values γ-input-values input-values) (sliceVal (b-input-values, o-input-values) (length input-values) ∷ [])) ∷ ‵ (MutSlice (named 3) κ-permutation usize .own (ref-permutation γ-permutation c1-permutation) (sliceVal (b-permutation, o-permutation) (length permutation) ∷ [])) ∷ ‵ (MutSlice (named 4) κ-firsts usize .own (ref-firsts γ-firsts c1-firsts) (sliceVal (b-firsts, o-firsts) (length firsts) ∷ [])) ∷ ‵ (MutSlice (named 5) κ-starts usize .own (ref-starts γ-starts c1-starts) (sliceVal (b-starts, o-starts) (length starts) ∷ [])) ∷ ‵ (MutSlice (named 6) κ-groups usize .own (ref-groups γ-groups c1-groups) (sliceVal (b-groups, o-groups) (length groups) ∷ [])) ∷ ‵ (MutSlice (named 7) κ-tasks usize .own (ref-tasks γ-tasks c1-tasks) (sliceVal (b-tasks, o-tasks) (length tasks) ∷ [])) ∷ ‵ (MutSlice (named 8) κ-top usize .own (ref-top γ-top c1-top) (sliceVal (b-top, o-top) (length top) ∷ [])) ∷ ‵ (MutSlice (named 9) κ-words usize .own (ref-words γ-words c1-words) (sliceVal (b-words, o-words) (length words) ∷ [])) ∷ ‵ (MutSlice (named 10) κ-rows usize .own (ref-rows γ-rows c1-rows) (sliceVal (b-rows, o-rows) (length rows) ∷ [])) ∷ ‵ (MutSlice (named 11) κ-updates T-Update.the-row .own (ref-updates γ-updates c1-updates) (sliceVal (b-updates, o-updates) (length updates) ∷ [])) ∷ ‵ (MutRef (named 12) κ-results (Array usize 12) .own (ref-results γ-results c2-results) (s-results ∷ [])) ∷ ‵ (flft κ-input-starts q-input-starts) ∷ ‵ (flft κ-input-rows q-input-rows) ∷ ‵ (flft κ-input-values q-input-values) ∷ ‵ (flft κ-permutation q-permutation) ∷ ‵ (flft κ-firsts q-firsts) ∷ ‵ (flft κ-starts q-starts) ∷ ‵ (flft κ-groups q-groups) ∷ ‵ (flft κ-tasks q-tasks) ∷ ‵ (flft κ-top q-top) ∷ ‵ (flft κ-words q-words) ∷ ‵ (flft κ-rows q-rows) ∷ ‵ (flft κ-updates q-updates) ∷ ‵ (flft κ-results q-results) ∷ ‵ (fat fullShare ty0 l0 0 r2) ∷ ‵ (fat fullShare ty1 l1 0 (vint w64 n)) ∷ ‵ (fat fullShare ty2 l2 0 s-input-starts) ∷ ‵ (fat fullShare ty3 l3 0 s-input-rows) ∷ ‵ (fat fullShare ty4 l4 0 s-input-values) ∷ ‵ (fat fullShare ty5 l5 0 (vint w64 cap)) ∷ ‵ (fat fullShare ty6 l6 0 s-permutation) ∷ ‵ (fat fullShare ty7 l7 0 s-firsts) ∷ ‵ (fat fullShare ty8 l8 0 s-starts) ∷ ‵ (fat fullShare ty9 l9 0 s-groups) ∷ ‵ (fat fullShare ty10 l10 0 s-tasks) ∷ ‵ (fat fullShare ty11 l11 0 s-top) ∷ ‵ (fat fullShare ty12 l12 0 s-words) ∷ ‵ (fat fullShare ty13 l13 0 s-rows) ∷ ‵ (fat fullShare ty14 l14 0 s-updates) ∷ ‵ (fat fullShare ty15 l15 0 s-results) ∷ ‵ (fat fullShare ty16 l16 0 r1) ∷ raw (Packed 𝓤 H A spare1) ∷ raw (Packed 𝓤 H A spare2) ∷ raw (Packed 𝓤 H A dying) ∷ []) (runs C Λ En body.t-22 (atRet En Post))
+      after2 : (u1 : Outcome) (r1 : Val) (is1 : Is T-Outcome.the-row u1 (r1 ∷ [])) (c1-permutation : List ℕ) (c1-firsts : List ℕ) (c1-starts : List ℕ) (c1-groups : List ℕ) (c1-tasks : List ℕ) (c1-top : List ℕ) (c1-words : List ℕ) (c1-rows : List ℕ) (c1-updates : List Update) (d1 : Analyses (matrix n (input-starts) (input-rows) (input-values)) cap (record { permutation = length (permutation); firsts = length (firsts); starts = length (starts); groups = length (groups); tasks = length (tasks); top = length (top); words = length (words); floats = 0; rows = length (rows); updates = length (updates); values = 0 }) (record { returned = u1; areas = record { permutation = c1-permutation; firsts = c1-firsts; starts = c1-starts; groups = c1-groups; tasks = c1-tasks; top = c1-top; words = c1-words; floats = []; rows = c1-rows; updates = c1-updates; values = [] } })) (same1-permutation : length c1-permutation ≡ length permutation) (same1-firsts : length c1-firsts ≡ length firsts) (same1-starts : length c1-starts ≡ length starts) (same1-groups : length c1-groups ≡ length groups) (same1-tasks : length c1-tasks ≡ length tasks) (same1-top : length c1-top ≡ length top) (same1-words : length c1-words ≡ length words) (same1-rows : length c1-rows ≡ length rows) (same1-updates : length c1-updates ≡ length updates) (u2 : ℕ) (r2 : Val) (is2 : Is usize u2 (r2 ∷ [])) (c2-results : List ℕ) (d2 : (c2-results ≡ outcomeWords u1) × (u2 ≡ number (u1 .answer))) → Sq W (‵ (ShrSlice (named 0) κ-input-starts usize .own (ref-input-starts γ-input-starts input-starts) (sliceVal (b-input-starts, o-input-starts) (length input-starts) ∷ [])) ∷ ‵ (ShrSlice (named 1) κ-input-rows usize .own (ref-input-rows γ-input-rows input-rows) (sliceVal (b-input-rows, o-input-rows) (length input-rows) ∷ [])) ∷ ‵ (ShrSlice (named 2) κ-input-values f64 .own (ref-input-values γ-input-values input-values) (sliceVal (b-input-values, o-input-values) (length input-values) ∷ [])) ∷ ‵ (MutSlice (named 3) κ-permutation usize .own (ref-permutation γ-permutation c1-permutation) (sliceVal (b-permutation, o-permutation) (length permutation) ∷ [])) ∷ ‵ (MutSlice (named 4) κ-firsts usize .own (ref-firsts γ-firsts c1-firsts) (sliceVal (b-firsts, o-firsts) (length firsts) ∷ [])) ∷ ‵ (MutSlice (named 5) κ-starts usize .own (ref-starts γ-starts c1-starts) (sliceVal (b-starts, o-starts) (length starts) ∷ [])) ∷ ‵ (MutSlice (named 6) κ-groups usize .own (ref-groups γ-groups c1-groups) (sliceVal (b-groups, o-groups) (length groups) ∷ [])) ∷ ‵ (MutSlice (named 7) κ-tasks usize .own (ref-tasks γ-tasks c1-tasks) (sliceVal (b-tasks, o-tasks) (length tasks) ∷ [])) ∷ ‵ (MutSlice (named 8) κ-top usize .own (ref-top γ-top c1-top) (sliceVal (b-top, o-top) (length top) ∷ [])) ∷ ‵ (MutSlice (named 9) κ-words usize .own (ref-words γ-words c1-words) (sliceVal (b-words, o-words) (length words) ∷ [])) ∷ ‵ (MutSlice (named 10) κ-rows usize .own (ref-rows γ-rows c1-rows) (sliceVal (b-rows, o-rows) (length rows) ∷ [])) ∷ ‵ (MutSlice (named 11) κ-updates T-Update.the-row .own (ref-updates γ-updates c1-updates) (sliceVal (b-updates, o-updates) (length updates) ∷ [])) ∷ ‵ (MutRef (named 12) κ-results (Array usize 12) .own (ref-results γ-results c2-results) (s-results ∷ [])) ∷ ‵ (flft κ-input-starts q-input-starts) ∷ ‵ (flft κ-input-rows q-input-rows) ∷ ‵ (flft κ-input-values q-input-values) ∷ ‵ (flft κ-permutation q-permutation) ∷ ‵ (flft κ-firsts q-firsts) ∷ ‵ (flft κ-starts q-starts) ∷ ‵ (flft κ-groups q-groups) ∷ ‵ (flft κ-tasks q-tasks) ∷ ‵ (flft κ-top q-top) ∷ ‵ (flft κ-words q-words) ∷ ‵ (flft κ-rows q-rows) ∷ ‵ (flft κ-updates q-updates) ∷ ‵ (flft κ-results q-results) ∷ ‵ (fat fullShare ty0 l0 0 r2) ∷ ‵ (fat fullShare ty1 l1 0 (vint w64 n)) ∷ ‵ (fat fullShare ty2 l2 0 s-input-starts) ∷ ‵ (fat fullShare ty3 l3 0 s-input-rows) ∷ ‵ (fat fullShare ty4 l4 0 s-input-values) ∷ ‵ (fat fullShare ty5 l5 0 (vint w64 cap)) ∷ ‵ (fat fullShare ty6 l6 0 s-permutation) ∷ ‵ (fat fullShare ty7 l7 0 s-firsts) ∷ ‵ (fat fullShare ty8 l8 0 s-starts) ∷ ‵ (fat fullShare ty9 l9 0 s-groups) ∷ ‵ (fat fullShare ty10 l10 0 s-tasks) ∷ ‵ (fat fullShare ty11 l11 0 s-top) ∷ ‵ (fat fullShare ty12 l12 0 s-words) ∷ ‵ (fat fullShare ty13 l13 0 s-rows) ∷ ‵ (fat fullShare ty14 l14 0 s-updates) ∷ ‵ (fat fullShare ty15 l15 0 s-results) ∷ ‵ (fat fullShare ty16 l16 0 r1) ∷ raw (Packed 𝓤 H A spare1) ∷ raw (Packed 𝓤 H A spare2) ∷ raw (Packed 𝓤 H A dying) ∷ []) (runs C Λ En body.t-22 (atRet En Post))
       after2 u1 r1 is1 c1-permutation c1-firsts c1-starts c1-groups c1-tasks c1-top c1-words c1-rows c1-updates d1 same1-permutation same1-firsts same1-starts same1-groups same1-tasks same1-top same1-words same1-rows same1-updates u2 r2 is2 c2-results d2 =
           w-returns ! (w-look ! 26 refl) $ w-forget ! 26 refl $ w-forget ! 27 refl $ w-forget ! 28 refl $ w-forget ! 29 refl $ w-forget ! 30 refl $ w-forget ! 31 refl $ w-forget ! 32 refl $ w-forget ! 33 refl $ w-forget ! 34 refl $ w-forget ! 35 refl $ w-forget ! 36 refl $ w-forget ! 37 refl $ w-forget ! 38 refl $ w-forget ! 39 refl $ w-forget ! 40 refl $ w-forget ! 41 refl $ w-forget ! 42 refl $
           w-move ! (43 ∷ []) $ w-unpack ! (‵ (froom ty17 l17 0) ∷ ‵ (froom ty18 l18 0) ∷ ‵ (froom ty19 l19 0) ∷ ‵ (froom ty20 l20 0) ∷ ‵ (froom ty21 l21 0) ∷ ‵ (froom ty22 l22 0) ∷ ‵ (froom ty23 l23 0) ∷ ‵ (froom ty24 l24 0) ∷ ‵ (froom ty25 l25 0) ∷ ‵ (froom ty26 l26 0) ∷ ‵ (froom ty27 l27 0) ∷ ‵ (froom ty28 l28 0) ∷ ‵ (froom ty29 l29 0) ∷ ‵ (froom ty30 l30 0) ∷ ‵ (froom ty31 l31 0) ∷ ‵ (froom ty32 l32 0) ∷ ‵ (froom ty33 l33 0) ∷ ‵ (froom ty34 l34 0) ∷ []) $
@@ -327,7 +325,7 @@ module _ {M : Type 1} (𝓤 : URA M) (H : Heap 𝓤) (A : Atoms 𝓤) (W : Given
           w-move ! (81 ∷ 0 ∷ 82 ∷ 1 ∷ 83 ∷ 2 ∷ 84 ∷ 3 ∷ 85 ∷ 4 ∷ 86 ∷ 5 ∷ 87 ∷ 6 ∷ 88 ∷ 7 ∷ 89 ∷ 8 ∷ 90 ∷ 9 ∷ 91 ∷ 10 ∷ 92 ∷ 11 ∷ 93 ∷ 12 ∷ 94 ∷ 13 ∷ 95 ∷ 14 ∷ 96 ∷ 15 ∷ 97 ∷ 16 ∷ 37 ∷ 17 ∷ 38 ∷ 18 ∷ 39 ∷ 19 ∷ 40 ∷ 20 ∷ 41 ∷ 21 ∷ 42 ∷ 22 ∷ 43 ∷ 23 ∷ 44 ∷ 24 ∷ 45 ∷ 25 ∷ 46 ∷ 26 ∷ 47 ∷ 27 ∷ 48 ∷ 28 ∷ 49 ∷ 29 ∷ 50 ∷ 30 ∷ 51 ∷ 31 ∷ 52 ∷ 32 ∷ 53 ∷ 33 ∷ 54 ∷ 34 ∷ 36 ∷ 35 ∷ []) $ w-homes-freed ! En $
           w-keep ! (13 ∷ 14 ∷ 15 ∷ 16 ∷ 17 ∷ 18 ∷ 19 ∷ 20 ∷ 21 ∷ 22 ∷ 23 ∷ 24 ∷ 25 ∷ 0 ∷ 1 ∷ 2 ∷ 3 ∷ 4 ∷ 5 ∷ 6 ∷ 7 ∷ 8 ∷ 9 ∷ 10 ∷ 11 ∷ 12 ∷ []) $ w-by ! (exits u1 r1 is1 c1-permutation c1-firsts c1-starts c1-groups c1-tasks c1-top c1-words c1-rows c1-updates d1 same1-permutation same1-firsts same1-starts same1-groups same1-tasks same1-top same1-words same1-rows same1-updates u2 r2 is2 c2-results d2)
 
-      after1 : (u1 : Outcome) (r1 : Val) (is1 : Is T-Outcome.the-row u1 (r1 ∷ [])) (c1-permutation : List ℕ) (c1-firsts : List ℕ) (c1-starts : List ℕ) (c1-groups : List ℕ) (c1-tasks : List ℕ) (c1-top : List ℕ) (c1-words : List ℕ) (c1-rows : List ℕ) (c1-updates : List Update) (d1 : Settles (analyse (matrix n (input-starts) (input-rows) (input-values)) cap (lentStructure (length (permutation)) (length (firsts)) (length (starts)) (length (groups)) (length (tasks)) (length (top)) (length (words)) (length (rows)) (length (updates)))) u1 (c1-permutation) (c1-firsts) (c1-starts) (c1-groups) (c1-tasks) (c1-top) (c1-words) (c1-rows) (c1-updates)) (same1-permutation : length c1-permutation ≡ length permutation) (same1-firsts : length c1-firsts ≡ length firsts) (same1-starts : length c1-starts ≡ length starts) (same1-groups : length c1-groups ≡ length groups) (same1-tasks : length c1-tasks ≡ length tasks) (same1-top : length c1-top ≡ length top) (same1-words : length c1-words ≡ length words) (same1-rows : length c1-rows ≡ length rows) (same1-updates : length c1-updates ≡ length updates) → Sq W (‵ (ShrSlice (named 0) κ-input-starts usize .own (ref-input-starts γ-input-starts input-starts) (sliceVal (b-input-starts, o-input-starts) (length input-starts) ∷ [])) ∷ ‵ (ShrSlice (named 1) κ-input-rows usize .own (ref-input-rows γ-input-rows input-rows) (sliceVal (b-input-rows, o-input-rows) (length input-rows) ∷ [])) ∷ ‵ (ShrSlice (named 2) κ-input-values f64 .own (ref-input-values γ-input-values input-values) (sliceVal (b-input-values, o-input-values) (length input-values) ∷ [])) ∷ ‵ (MutSlice (named 3) κ-permutation usize .own (ref-permutation γ-permutation c1-permutation) (sliceVal (b-permutation, o-permutation) (length permutation) ∷ [])) ∷ ‵ (MutSlice (named 4) κ-firsts usize .own (ref-firsts γ-firsts c1-firsts) (sliceVal (b-firsts, o-firsts) (length firsts) ∷ [])) ∷ ‵ (MutSlice (named 5) κ-starts usize .own (ref-starts γ-starts c1-starts) (sliceVal (b-starts, o-starts) (length starts) ∷ [])) ∷ ‵ (MutSlice (named 6) κ-groups usize .own (ref-groups γ-groups c1-groups) (sliceVal (b-groups, o-groups) (length groups) ∷ [])) ∷ ‵ (MutSlice (named 7) κ-tasks usize .own (ref-tasks γ-tasks c1-tasks) (sliceVal (b-tasks, o-tasks) (length tasks) ∷ [])) ∷ ‵ (MutSlice (named 8) κ-top usize .own (ref-top γ-top c1-top) (sliceVal (b-top, o-top) (length top) ∷ [])) ∷ ‵ (MutSlice (named 9) κ-words usize .own (ref-words γ-words c1-words) (sliceVal (b-words, o-words) (length words) ∷ [])) ∷ ‵ (MutSlice (named 10) κ-rows usize .own (ref-rows γ-rows c1-rows) (sliceVal (b-rows, o-rows) (length rows) ∷ [])) ∷ ‵ (MutSlice (named 11) κ-updates T-Update.the-row .own (ref-updates γ-updates c1-updates) (sliceVal (b-updates, o-updates) (length updates) ∷ [])) ∷ ‵ (MutRef (named 12) κ-results (Array usize 12) .own (ref-results γ-results results) (s-results ∷ [])) ∷ ‵ (flft κ-input-starts q-input-starts) ∷ ‵ (flft κ-input-rows q-input-rows) ∷ ‵ (flft κ-input-values q-input-values) ∷ ‵ (flft κ-permutation q-permutation) ∷ ‵ (flft κ-firsts q-firsts) ∷ ‵ (flft κ-starts q-starts) ∷ ‵ (flft κ-groups q-groups) ∷ ‵ (flft κ-tasks q-tasks) ∷ ‵ (flft κ-top q-top) ∷ ‵ (flft κ-words q-words) ∷ ‵ (flft κ-rows q-rows) ∷ ‵ (flft κ-updates q-updates) ∷ ‵ (flft κ-results q-results) ∷ ‵ (froom ty0 l0 0) ∷ ‵ (fat fullShare ty1 l1 0 (vint w64 n)) ∷ ‵ (fat fullShare ty2 l2 0 s-input-starts) ∷ ‵ (fat fullShare ty3 l3 0 s-input-rows) ∷ ‵ (fat fullShare ty4 l4 0 s-input-values) ∷ ‵ (fat fullShare ty5 l5 0 (vint w64 cap)) ∷ ‵ (fat fullShare ty6 l6 0 s-permutation) ∷ ‵ (fat fullShare ty7 l7 0 s-firsts) ∷ ‵ (fat fullShare ty8 l8 0 s-starts) ∷ ‵ (fat fullShare ty9 l9 0 s-groups) ∷ ‵ (fat fullShare ty10 l10 0 s-tasks) ∷ ‵ (fat fullShare ty11 l11 0 s-top) ∷ ‵ (fat fullShare ty12 l12 0 s-words) ∷ ‵ (fat fullShare ty13 l13 0 s-rows) ∷ ‵ (fat fullShare ty14 l14 0 s-updates) ∷ ‵ (fat fullShare ty15 l15 0 s-results) ∷ ‵ (fat fullShare ty16 l16 0 r1) ∷ raw (Packed 𝓤 H A spare1) ∷ raw (Packed 𝓤 H A spare2) ∷ raw (Packed 𝓤 H A dying) ∷ []) (runs C Λ En body.t-20 (atRet En Post))
+      after1 : (u1 : Outcome) (r1 : Val) (is1 : Is T-Outcome.the-row u1 (r1 ∷ [])) (c1-permutation : List ℕ) (c1-firsts : List ℕ) (c1-starts : List ℕ) (c1-groups : List ℕ) (c1-tasks : List ℕ) (c1-top : List ℕ) (c1-words : List ℕ) (c1-rows : List ℕ) (c1-updates : List Update) (d1 : Analyses (matrix n (input-starts) (input-rows) (input-values)) cap (record { permutation = length (permutation); firsts = length (firsts); starts = length (starts); groups = length (groups); tasks = length (tasks); top = length (top); words = length (words); floats = 0; rows = length (rows); updates = length (updates); values = 0 }) (record { returned = u1; areas = record { permutation = c1-permutation; firsts = c1-firsts; starts = c1-starts; groups = c1-groups; tasks = c1-tasks; top = c1-top; words = c1-words; floats = []; rows = c1-rows; updates = c1-updates; values = [] } })) (same1-permutation : length c1-permutation ≡ length permutation) (same1-firsts : length c1-firsts ≡ length firsts) (same1-starts : length c1-starts ≡ length starts) (same1-groups : length c1-groups ≡ length groups) (same1-tasks : length c1-tasks ≡ length tasks) (same1-top : length c1-top ≡ length top) (same1-words : length c1-words ≡ length words) (same1-rows : length c1-rows ≡ length rows) (same1-updates : length c1-updates ≡ length updates) → Sq W (‵ (ShrSlice (named 0) κ-input-starts usize .own (ref-input-starts γ-input-starts input-starts) (sliceVal (b-input-starts, o-input-starts) (length input-starts) ∷ [])) ∷ ‵ (ShrSlice (named 1) κ-input-rows usize .own (ref-input-rows γ-input-rows input-rows) (sliceVal (b-input-rows, o-input-rows) (length input-rows) ∷ [])) ∷ ‵ (ShrSlice (named 2) κ-input-values f64 .own (ref-input-values γ-input-values input-values) (sliceVal (b-input-values, o-input-values) (length input-values) ∷ [])) ∷ ‵ (MutSlice (named 3) κ-permutation usize .own (ref-permutation γ-permutation c1-permutation) (sliceVal (b-permutation, o-permutation) (length permutation) ∷ [])) ∷ ‵ (MutSlice (named 4) κ-firsts usize .own (ref-firsts γ-firsts c1-firsts) (sliceVal (b-firsts, o-firsts) (length firsts) ∷ [])) ∷ ‵ (MutSlice (named 5) κ-starts usize .own (ref-starts γ-starts c1-starts) (sliceVal (b-starts, o-starts) (length starts) ∷ [])) ∷ ‵ (MutSlice (named 6) κ-groups usize .own (ref-groups γ-groups c1-groups) (sliceVal (b-groups, o-groups) (length groups) ∷ [])) ∷ ‵ (MutSlice (named 7) κ-tasks usize .own (ref-tasks γ-tasks c1-tasks) (sliceVal (b-tasks, o-tasks) (length tasks) ∷ [])) ∷ ‵ (MutSlice (named 8) κ-top usize .own (ref-top γ-top c1-top) (sliceVal (b-top, o-top) (length top) ∷ [])) ∷ ‵ (MutSlice (named 9) κ-words usize .own (ref-words γ-words c1-words) (sliceVal (b-words, o-words) (length words) ∷ [])) ∷ ‵ (MutSlice (named 10) κ-rows usize .own (ref-rows γ-rows c1-rows) (sliceVal (b-rows, o-rows) (length rows) ∷ [])) ∷ ‵ (MutSlice (named 11) κ-updates T-Update.the-row .own (ref-updates γ-updates c1-updates) (sliceVal (b-updates, o-updates) (length updates) ∷ [])) ∷ ‵ (MutRef (named 12) κ-results (Array usize 12) .own (ref-results γ-results results) (s-results ∷ [])) ∷ ‵ (flft κ-input-starts q-input-starts) ∷ ‵ (flft κ-input-rows q-input-rows) ∷ ‵ (flft κ-input-values q-input-values) ∷ ‵ (flft κ-permutation q-permutation) ∷ ‵ (flft κ-firsts q-firsts) ∷ ‵ (flft κ-starts q-starts) ∷ ‵ (flft κ-groups q-groups) ∷ ‵ (flft κ-tasks q-tasks) ∷ ‵ (flft κ-top q-top) ∷ ‵ (flft κ-words q-words) ∷ ‵ (flft κ-rows q-rows) ∷ ‵ (flft κ-updates q-updates) ∷ ‵ (flft κ-results q-results) ∷ ‵ (froom ty0 l0 0) ∷ ‵ (fat fullShare ty1 l1 0 (vint w64 n)) ∷ ‵ (fat fullShare ty2 l2 0 s-input-starts) ∷ ‵ (fat fullShare ty3 l3 0 s-input-rows) ∷ ‵ (fat fullShare ty4 l4 0 s-input-values) ∷ ‵ (fat fullShare ty5 l5 0 (vint w64 cap)) ∷ ‵ (fat fullShare ty6 l6 0 s-permutation) ∷ ‵ (fat fullShare ty7 l7 0 s-firsts) ∷ ‵ (fat fullShare ty8 l8 0 s-starts) ∷ ‵ (fat fullShare ty9 l9 0 s-groups) ∷ ‵ (fat fullShare ty10 l10 0 s-tasks) ∷ ‵ (fat fullShare ty11 l11 0 s-top) ∷ ‵ (fat fullShare ty12 l12 0 s-words) ∷ ‵ (fat fullShare ty13 l13 0 s-rows) ∷ ‵ (fat fullShare ty14 l14 0 s-updates) ∷ ‵ (fat fullShare ty15 l15 0 s-results) ∷ ‵ (fat fullShare ty16 l16 0 r1) ∷ raw (Packed 𝓤 H A spare1) ∷ raw (Packed 𝓤 H A spare2) ∷ raw (Packed 𝓤 H A dying) ∷ []) (runs C Λ En body.t-20 (atRet En Post))
       after1 u1 r1 is1 c1-permutation c1-firsts c1-starts c1-groups c1-tasks c1-top c1-words c1-rows c1-updates d1 same1-permutation same1-firsts same1-starts same1-groups same1-tasks same1-top same1-words same1-rows same1-updates =
           w-move ! (44 ∷ []) $ w-unpack ! (‵ (froom ty35 l35 0) ∷ []) $
           w-move ! (1 ∷ 2 ∷ 3 ∷ 4 ∷ 5 ∷ 6 ∷ 7 ∷ 8 ∷ 9 ∷ 11 ∷ 12 ∷ 14 ∷ 15 ∷ 16 ∷ 17 ∷ 18 ∷ 19 ∷ 20 ∷ 21 ∷ 22 ∷ 24 ∷ 25 ∷ 28 ∷ 29 ∷ 30 ∷ 31 ∷ 32 ∷ 33 ∷ 34 ∷ 35 ∷ 36 ∷ 37 ∷ 38 ∷ 40 ∷ 41 ∷ 44 ∷ 45 ∷ []) $ w-pack ! (‵ (ShrSlice (named 0) κ-input-starts usize .own (ref-input-starts γ-input-starts input-starts) (sliceVal (b-input-starts, o-input-starts) (length input-starts) ∷ [])) ∷ ‵ (ShrSlice (named 1) κ-input-rows usize .own (ref-input-rows γ-input-rows input-rows) (sliceVal (b-input-rows, o-input-rows) (length input-rows) ∷ [])) ∷ ‵ (ShrSlice (named 2) κ-input-values f64 .own (ref-input-values γ-input-values input-values) (sliceVal (b-input-values, o-input-values) (length input-values) ∷ [])) ∷ ‵ (MutSlice (named 3) κ-permutation usize .own (ref-permutation γ-permutation c1-permutation) (sliceVal (b-permutation, o-permutation) (length permutation) ∷ [])) ∷ ‵ (MutSlice (named 4) κ-firsts usize .own (ref-firsts γ-firsts c1-firsts) (sliceVal (b-firsts, o-firsts) (length firsts) ∷ [])) ∷ ‵ (MutSlice (named 5) κ-starts usize .own (ref-starts γ-starts c1-starts) (sliceVal (b-starts, o-starts) (length starts) ∷ [])) ∷ ‵ (MutSlice (named 6) κ-groups usize .own (ref-groups γ-groups c1-groups) (sliceVal (b-groups, o-groups) (length groups) ∷ [])) ∷ ‵ (MutSlice (named 7) κ-tasks usize .own (ref-tasks γ-tasks c1-tasks) (sliceVal (b-tasks, o-tasks) (length tasks) ∷ [])) ∷ ‵ (MutSlice (named 8) κ-top usize .own (ref-top γ-top c1-top) (sliceVal (b-top, o-top) (length top) ∷ [])) ∷ ‵ (MutSlice (named 10) κ-rows usize .own (ref-rows γ-rows c1-rows) (sliceVal (b-rows, o-rows) (length rows) ∷ [])) ∷ ‵ (MutSlice (named 11) κ-updates T-Update.the-row .own (ref-updates γ-updates c1-updates) (sliceVal (b-updates, o-updates) (length updates) ∷ [])) ∷ ‵ (flft κ-input-starts q-input-starts) ∷ ‵ (flft κ-input-rows q-input-rows) ∷ ‵ (flft κ-input-values q-input-values) ∷ ‵ (flft κ-permutation q-permutation) ∷ ‵ (flft κ-firsts q-firsts) ∷ ‵ (flft κ-starts q-starts) ∷ ‵ (flft κ-groups q-groups) ∷ ‵ (flft κ-tasks q-tasks) ∷ ‵ (flft κ-top q-top) ∷ ‵ (flft κ-rows q-rows) ∷ ‵ (flft κ-updates q-updates) ∷ ‵ (fat fullShare ty1 l1 0 (vint w64 n)) ∷ ‵ (fat fullShare ty2 l2 0 s-input-starts) ∷ ‵ (fat fullShare ty3 l3 0 s-input-rows) ∷ ‵ (fat fullShare ty4 l4 0 s-input-values) ∷ ‵ (fat fullShare ty5 l5 0 (vint w64 cap)) ∷ ‵ (fat fullShare ty6 l6 0 s-permutation) ∷ ‵ (fat fullShare ty7 l7 0 s-firsts) ∷ ‵ (fat fullShare ty8 l8 0 s-starts) ∷ ‵ (fat fullShare ty9 l9 0 s-groups) ∷ ‵ (fat fullShare ty10 l10 0 s-tasks) ∷ ‵ (fat fullShare ty11 l11 0 s-top) ∷ ‵ (fat fullShare ty13 l13 0 s-rows) ∷ ‵ (fat fullShare ty14 l14 0 s-updates) ∷ raw (Packed 𝓤 H A spare1) ∷ raw (Packed 𝓤 H A dying) ∷ []) $
@@ -381,7 +379,7 @@ module _ {M : Type 1} (𝓤 : URA M) (H : Heap 𝓤) (A : Atoms 𝓤) (W : Given
           use2 W (raw (C-analyse 𝓤 H A mem run .pre (((κ-input-starts, (κ-input-rows, (κ-input-values, (ν1-5 ∷ [], (ν1-6 ∷ [], (ν1-7 ∷ [], (ν1-8 ∷ [], (ν1-9 ∷ [], (ν1-10 ∷ [], (ν1-11 ∷ [], (ν1-12 ∷ [], (ν1-13 ∷ [], tt)))))))))))), (q-input-starts, (q-input-rows, (q-input-values, (fullShare, (fullShare, (fullShare, (fullShare, (fullShare, (fullShare, (fullShare, (fullShare, (fullShare, tt)))))))))))), tt, (n, (ref-input-starts γ-input-starts input-starts, (ref-input-rows γ-input-rows input-rows, (ref-input-values γ-input-values input-values, (cap, (ref-permutation δ1-5 permutation, (ref-firsts δ1-6 firsts, (ref-starts δ1-7 starts, (ref-groups δ1-8 groups, (ref-tasks δ1-9 tasks, (ref-top δ1-10 top, (ref-words δ1-11 words, (ref-rows δ1-12 rows, (ref-updates δ1-13 updates, tt)))))))))))))), (vint w64 n ∷ [], (s-input-starts ∷ [], (s-input-rows ∷ [], (s-input-values ∷ [], (vint w64 cap ∷ [], (s-permutation ∷ [], (s-firsts ∷ [], (s-starts ∷ [], (s-groups ∷ [], (s-tasks ∷ [], (s-top ∷ [], (s-words ∷ [], (s-rows ∷ [], (s-updates ∷ [], tt))))))))))))))), tt))) (asked1 ν1-5 δ1-5 ν1-6 δ1-6 ν1-7 δ1-7 ν1-8 δ1-8 ν1-9 δ1-9 ν1-10 δ1-10 ν1-11 δ1-11 ν1-12 δ1-12 ν1-13 δ1-13) $
           w-calls-at ! fm (C-analyse 𝓤 H A mem run) known-analyse (((κ-input-starts, (κ-input-rows, (κ-input-values, (ν1-5 ∷ [], (ν1-6 ∷ [], (ν1-7 ∷ [], (ν1-8 ∷ [], (ν1-9 ∷ [], (ν1-10 ∷ [], (ν1-11 ∷ [], (ν1-12 ∷ [], (ν1-13 ∷ [], tt)))))))))))), (q-input-starts, (q-input-rows, (q-input-values, (fullShare, (fullShare, (fullShare, (fullShare, (fullShare, (fullShare, (fullShare, (fullShare, (fullShare, tt)))))))))))), tt, (n, (ref-input-starts γ-input-starts input-starts, (ref-input-rows γ-input-rows input-rows, (ref-input-values γ-input-values input-values, (cap, (ref-permutation δ1-5 permutation, (ref-firsts δ1-6 firsts, (ref-starts δ1-7 starts, (ref-groups δ1-8 groups, (ref-tasks δ1-9 tasks, (ref-top δ1-10 top, (ref-words δ1-11 words, (ref-rows δ1-12 rows, (ref-updates δ1-13 updates, tt)))))))))))))), (vint w64 n ∷ [], (s-input-starts ∷ [], (s-input-rows ∷ [], (s-input-values ∷ [], (vint w64 cap ∷ [], (s-permutation ∷ [], (s-firsts ∷ [], (s-starts ∷ [], (s-groups ∷ [], (s-tasks ∷ [], (s-top ∷ [], (s-words ∷ [], (s-rows ∷ [], (s-updates ∷ [], tt))))))))))))))), tt) (w-and-then ! (w-load ! (w-from ! (w-stop !)) (w-look ! 33 refl)) (w-and-then ! (w-load ! (w-from ! (w-stop !)) (w-look ! 34 refl)) (w-and-then ! (w-load ! (w-from ! (w-stop !)) (w-look ! 35 refl)) (w-and-then ! (w-load ! (w-from ! (w-stop !)) (w-look ! 36 refl)) (w-and-then ! (w-load ! (w-from ! (w-stop !)) (w-look ! 37 refl)) (w-and-then ! (w-load ! (w-from ! (w-stop !)) (w-look ! 15 refl)) (w-and-then ! (w-load ! (w-from ! (w-stop !)) (w-look ! 17 refl)) (w-and-then ! (w-load ! (w-from ! (w-stop !)) (w-look ! 19 refl)) (w-and-then ! (w-load ! (w-from ! (w-stop !)) (w-look ! 21 refl)) (w-and-then ! (w-load ! (w-from ! (w-stop !)) (w-look ! 23 refl)) (w-and-then ! (w-load ! (w-from ! (w-stop !)) (w-look ! 25 refl)) (w-and-then ! (w-load ! (w-from ! (w-stop !)) (w-look ! 27 refl)) (w-and-then ! (w-load ! (w-from ! (w-stop !)) (w-look ! 29 refl)) (w-and-then ! (w-load ! (w-from ! (w-stop !)) (w-look ! 31 refl)) (w-no-more !))))))))))))))) (λ r1.
           use1 W (later (some (λ (u′ : Outcome). ((‵ (flft (κ-input-starts) q-input-starts) ⊛ ‵ (flft (κ-input-rows) q-input-rows) ⊛ ‵ (flft (κ-input-values) q-input-values) ⊛ ‵ (flft (ν1-5 ∷ []) fullShare) ⊛ ‵ (flft (ν1-6 ∷ []) fullShare) ⊛ ‵ (flft (ν1-7 ∷ []) fullShare) ⊛ ‵ (flft (ν1-8 ∷ []) fullShare) ⊛ ‵ (flft (ν1-9 ∷ []) fullShare) ⊛ ‵ (flft (ν1-10 ∷ []) fullShare) ⊛ ‵ (flft (ν1-11 ∷ []) fullShare) ⊛ ‵ (flft (ν1-12 ∷ []) fullShare) ⊛ ‵ (flft (ν1-13 ∷ []) fullShare) ⊛ ‵ ftrue) ⊛ ‵ (T-Outcome.the-row .own u′ (r1 ∷ []))) ⊛ raw (ensured 𝓤 H A f-analyse.ended (f-analyse.clauses 𝓤 H A mem run) (κ-input-starts, (κ-input-rows, (κ-input-values, (ν1-5 ∷ [], (ν1-6 ∷ [], (ν1-7 ∷ [], (ν1-8 ∷ [], (ν1-9 ∷ [], (ν1-10 ∷ [], (ν1-11 ∷ [], (ν1-12 ∷ [], (ν1-13 ∷ [], tt)))))))))))) (n, (ref-input-starts γ-input-starts input-starts, (ref-input-rows γ-input-rows input-rows, (ref-input-values γ-input-values input-values, (cap, (ref-permutation δ1-5 permutation, (ref-firsts δ1-6 firsts, (ref-starts δ1-7 starts, (ref-groups δ1-8 groups, (ref-tasks δ1-9 tasks, (ref-top δ1-10 top, (ref-words δ1-11 words, (ref-rows δ1-12 rows, (ref-updates δ1-13 updates, tt)))))))))))))) tt u′)))) (id⊢ 𝓤 _) $ w-await ! tt $ w-pick ! (λ u1.
-          w-split ! $ w-move ! (1 ∷ []) $ use1 W (some (λ (zs1 : Unit {0} × (Unit {0} × (Unit {0} × (Unit {0} × (Unit {0} × (List ℕ × (List ℕ × (List ℕ × (List ℕ × (List ℕ × (List ℕ × (List ℕ × (List ℕ × (List Update × Unit {0})))))))))))))). ‵ (lasts f-analyse.ended (κ-input-starts, (κ-input-rows, (κ-input-values, (ν1-5 ∷ [], (ν1-6 ∷ [], (ν1-7 ∷ [], (ν1-8 ∷ [], (ν1-9 ∷ [], (ν1-10 ∷ [], (ν1-11 ∷ [], (ν1-12 ∷ [], (ν1-13 ∷ [], tt)))))))))))) (n, (ref-input-starts γ-input-starts input-starts, (ref-input-rows γ-input-rows input-rows, (ref-input-values γ-input-values input-values, (cap, (ref-permutation δ1-5 permutation, (ref-firsts δ1-6 firsts, (ref-starts δ1-7 starts, (ref-groups δ1-8 groups, (ref-tasks δ1-9 tasks, (ref-top δ1-10 top, (ref-words δ1-11 words, (ref-rows δ1-12 rows, (ref-updates δ1-13 updates, tt)))))))))))))) zs1) ⊛ raw (fact 𝓤 (Settles (analyse (matrix n (input-starts) (input-rows) (input-values)) cap (lentStructure (length (permutation)) (length (firsts)) (length (starts)) (length (groups)) (length (tasks)) (length (top)) (length (words)) (length (rows)) (length (updates)))) u1 ((zs1 .1 .1 .1 .1 .1 .0)) ((zs1 .1 .1 .1 .1 .1 .1 .0)) ((zs1 .1 .1 .1 .1 .1 .1 .1 .0)) ((zs1 .1 .1 .1 .1 .1 .1 .1 .1 .0)) ((zs1 .1 .1 .1 .1 .1 .1 .1 .1 .1 .0)) ((zs1 .1 .1 .1 .1 .1 .1 .1 .1 .1 .1 .0)) ((zs1 .1 .1 .1 .1 .1 .1 .1 .1 .1 .1 .1 .0)) ((zs1 .1 .1 .1 .1 .1 .1 .1 .1 .1 .1 .1 .1 .0)) ((zs1 .1 .1 .1 .1 .1 .1 .1 .1 .1 .1 .1 .1 .1 .0)))))) (id⊢ 𝓤 _) $ w-pick ! (λ zs1. w-split ! $ w-move ! (1 ∷ []) $ w-heard ! (Settles (analyse (matrix n (input-starts) (input-rows) (input-values)) cap (lentStructure (length (permutation)) (length (firsts)) (length (starts)) (length (groups)) (length (tasks)) (length (top)) (length (words)) (length (rows)) (length (updates)))) u1 ((zs1 .1 .1 .1 .1 .1 .0)) ((zs1 .1 .1 .1 .1 .1 .1 .0)) ((zs1 .1 .1 .1 .1 .1 .1 .1 .0)) ((zs1 .1 .1 .1 .1 .1 .1 .1 .1 .0)) ((zs1 .1 .1 .1 .1 .1 .1 .1 .1 .1 .0)) ((zs1 .1 .1 .1 .1 .1 .1 .1 .1 .1 .1 .0)) ((zs1 .1 .1 .1 .1 .1 .1 .1 .1 .1 .1 .1 .0)) ((zs1 .1 .1 .1 .1 .1 .1 .1 .1 .1 .1 .1 .1 .0)) ((zs1 .1 .1 .1 .1 .1 .1 .1 .1 .1 .1 .1 .1 .1 .0))) (λ d1.
+          w-split ! $ w-move ! (1 ∷ []) $ use1 W (some (λ (zs1 : Unit {0} × (Unit {0} × (Unit {0} × (Unit {0} × (Unit {0} × (List ℕ × (List ℕ × (List ℕ × (List ℕ × (List ℕ × (List ℕ × (List ℕ × (List ℕ × (List Update × Unit {0})))))))))))))). ‵ (lasts f-analyse.ended (κ-input-starts, (κ-input-rows, (κ-input-values, (ν1-5 ∷ [], (ν1-6 ∷ [], (ν1-7 ∷ [], (ν1-8 ∷ [], (ν1-9 ∷ [], (ν1-10 ∷ [], (ν1-11 ∷ [], (ν1-12 ∷ [], (ν1-13 ∷ [], tt)))))))))))) (n, (ref-input-starts γ-input-starts input-starts, (ref-input-rows γ-input-rows input-rows, (ref-input-values γ-input-values input-values, (cap, (ref-permutation δ1-5 permutation, (ref-firsts δ1-6 firsts, (ref-starts δ1-7 starts, (ref-groups δ1-8 groups, (ref-tasks δ1-9 tasks, (ref-top δ1-10 top, (ref-words δ1-11 words, (ref-rows δ1-12 rows, (ref-updates δ1-13 updates, tt)))))))))))))) zs1) ⊛ raw (fact 𝓤 (Analyses (matrix n (input-starts) (input-rows) (input-values)) cap (record { permutation = length (permutation); firsts = length (firsts); starts = length (starts); groups = length (groups); tasks = length (tasks); top = length (top); words = length (words); floats = 0; rows = length (rows); updates = length (updates); values = 0 }) (record { returned = u1; areas = record { permutation = (zs1 .1 .1 .1 .1 .1 .0); firsts = (zs1 .1 .1 .1 .1 .1 .1 .0); starts = (zs1 .1 .1 .1 .1 .1 .1 .1 .0); groups = (zs1 .1 .1 .1 .1 .1 .1 .1 .1 .0); tasks = (zs1 .1 .1 .1 .1 .1 .1 .1 .1 .1 .0); top = (zs1 .1 .1 .1 .1 .1 .1 .1 .1 .1 .1 .0); words = (zs1 .1 .1 .1 .1 .1 .1 .1 .1 .1 .1 .1 .0); floats = []; rows = (zs1 .1 .1 .1 .1 .1 .1 .1 .1 .1 .1 .1 .1 .0); updates = (zs1 .1 .1 .1 .1 .1 .1 .1 .1 .1 .1 .1 .1 .1 .0); values = [] } }))))) (id⊢ 𝓤 _) $ w-pick ! (λ zs1. w-split ! $ w-move ! (1 ∷ []) $ w-heard ! (Analyses (matrix n (input-starts) (input-rows) (input-values)) cap (record { permutation = length (permutation); firsts = length (firsts); starts = length (starts); groups = length (groups); tasks = length (tasks); top = length (top); words = length (words); floats = 0; rows = length (rows); updates = length (updates); values = 0 }) (record { returned = u1; areas = record { permutation = (zs1 .1 .1 .1 .1 .1 .0); firsts = (zs1 .1 .1 .1 .1 .1 .1 .0); starts = (zs1 .1 .1 .1 .1 .1 .1 .1 .0); groups = (zs1 .1 .1 .1 .1 .1 .1 .1 .1 .0); tasks = (zs1 .1 .1 .1 .1 .1 .1 .1 .1 .1 .0); top = (zs1 .1 .1 .1 .1 .1 .1 .1 .1 .1 .1 .0); words = (zs1 .1 .1 .1 .1 .1 .1 .1 .1 .1 .1 .1 .0); floats = []; rows = (zs1 .1 .1 .1 .1 .1 .1 .1 .1 .1 .1 .1 .1 .0); updates = (zs1 .1 .1 .1 .1 .1 .1 .1 .1 .1 .1 .1 .1 .1 .0); values = [] } })) (λ d1.
           w-past ! $ w-past ! $ w-past ! $ w-past ! $ w-past ! $ w-last ! (λ same1-permutation. w-move ! (1 ∷ []) $ w-last ! (λ same1-firsts. w-move ! (1 ∷ []) $ w-last ! (λ same1-starts. w-move ! (1 ∷ []) $ w-last ! (λ same1-groups. w-move ! (1 ∷ []) $ w-last ! (λ same1-tasks. w-move ! (1 ∷ []) $ w-last ! (λ same1-top. w-move ! (1 ∷ []) $ w-last ! (λ same1-words. w-move ! (1 ∷ []) $ w-last ! (λ same1-rows. w-move ! (1 ∷ []) $ w-last ! (λ same1-updates. w-move ! (1 ∷ []) $ w-drop ! $
           w-move ! (9 ∷ []) $ w-split ! $ w-move ! (1 ∷ []) $ w-peeks ! T-Outcome.the-row (Is T-Outcome.the-row) (shows 𝓤 H A T-Outcome.the-row) u1 (r1 ∷ []) (λ is1. w-land ! (w-from ! (w-stop !)) (w-init ! 57 refl (LL.lawful T-Outcome.the-type L-Outcome.the-laws 𝓤 H A W .typed u1 _ is1 .0)) $
           w-drop ! $ w-split ! $ w-move ! (1 ∷ []) $ w-split ! $ w-move ! (1 ∷ []) $ w-split ! $ w-move ! (1 ∷ 21 ∷ 12 ∷ []) $ w-back ! tt usize κ-permutation q-permutation γ-permutation b-permutation o-permutation (named 3) (named 3) permutation (length permutation) refl ν1-5 δ1-5 (zs1 .1 .1 .1 .1 .1 .0) room-permutation same1-permutation $

@@ -1,10 +1,9 @@
 -- `exports::nosebagged_factor` meets its contract: a walk of its MIR that tools/walk.py wrote, cut after each call. Assumes nothing.
 use Prim.Native.Nat.{_<_, _^_, ℕ}
 use Rattle.crossing.specs.Words.{orderSaid, outcomeWords, stopSaid}
-use Rattle.exports.specs.Crossed.{FactorCrossed}
-use Rattle.factor.specs.Filled.{FactorSettles, lentAll}
+use Rattle.exports.specs.Crossed.{Crossed}
 use Rattle.statement.specs.Answers.{number}
-use Rattle.statement.specs.Calls.{factor}
+use Rattle.statement.specs.Calls.{Factors, factor}
 use Rattle.statement.specs.Input.{matrix}
 use base.Fml.{GName, Lft, Share, fat, fdies, flft, froom, ftrue}
 use base.Logic.{SProp, emp, ent, fst∗, id⊢, via}
@@ -350,9 +349,9 @@ module _ {M : Type 1} (𝓤 : URA M) (H : Heap 𝓤) (A : Atoms 𝓤) (W : Given
   abbrev ty46 : Ty
   ty46 = tyRef erased mut (tyArray (tyInt w64) 12)
 
-  exits : (u1 : Order) (r1 : Val) (is1 : Is T-Order.the-row u1 (r1 ∷ [])) (d1 : u1 ≡ orderSaid order) (u2 : Stop) (r2 : Val) (is2 : Is T-Stop.the-row u2 (r2 ∷ [])) (d2 : u2 ≡ stopSaid stop) (u3 : Outcome) (r3 : Val) (is3 : Is T-Outcome.the-row u3 (r3 ∷ [])) (c3-permutation : List ℕ) (c3-firsts : List ℕ) (c3-starts : List ℕ) (c3-groups : List ℕ) (c3-tasks : List ℕ) (c3-top : List ℕ) (c3-words : List ℕ) (c3-floats : List Float) (c3-rows : List ℕ) (c3-updates : List Update) (c3-values : List Float) (d3 : FactorSettles (factor (matrix n (input-starts) (input-rows) (input-values)) cap u1 («list») u2 (lentAll (length (permutation)) (length (firsts)) (length (starts)) (length (groups)) (length (tasks)) (length (top)) (length (words)) (length (floats)) (length (rows)) (length (updates)) (length (values)))) u3 (c3-permutation) (c3-firsts) (c3-starts) (c3-groups) (c3-tasks) (c3-top) (c3-words) (c3-floats) (c3-rows) (c3-updates) (c3-values)) (same3-permutation : length c3-permutation ≡ length permutation) (same3-firsts : length c3-firsts ≡ length firsts) (same3-starts : length c3-starts ≡ length starts) (same3-groups : length c3-groups ≡ length groups) (same3-tasks : length c3-tasks ≡ length tasks) (same3-top : length c3-top ≡ length top) (same3-words : length c3-words ≡ length words) (same3-floats : length c3-floats ≡ length floats) (same3-rows : length c3-rows ≡ length rows) (same3-updates : length c3-updates ≡ length updates) (same3-values : length c3-values ≡ length values) (u4 : ℕ) (r4 : Val) (is4 : Is usize u4 (r4 ∷ [])) (c4-results : List ℕ) (d4 : (c4-results ≡ outcomeWords u3) × (u4 ≡ number (u3 .answer))) → ent 𝓤 (⋆ 𝓤 H A (‵ (flft κ-input-starts q-input-starts) ∷ ‵ (flft κ-input-rows q-input-rows) ∷ ‵ (flft κ-input-values q-input-values) ∷ ‵ (flft κ-list q-list) ∷ ‵ (flft κ-permutation q-permutation) ∷ ‵ (flft κ-firsts q-firsts) ∷ ‵ (flft κ-starts q-starts) ∷ ‵ (flft κ-groups q-groups) ∷ ‵ (flft κ-tasks q-tasks) ∷ ‵ (flft κ-top q-top) ∷ ‵ (flft κ-words q-words) ∷ ‵ (flft κ-floats q-floats) ∷ ‵ (flft κ-rows q-rows) ∷ ‵ (flft κ-updates q-updates) ∷ ‵ (flft κ-values q-values) ∷ ‵ (flft κ-results q-results) ∷ ‵ (ShrSlice (named 0) κ-input-starts usize .own (ref-input-starts γ-input-starts input-starts) (sliceVal (b-input-starts, o-input-starts) (length input-starts) ∷ [])) ∷ ‵ (ShrSlice (named 1) κ-input-rows usize .own (ref-input-rows γ-input-rows input-rows) (sliceVal (b-input-rows, o-input-rows) (length input-rows) ∷ [])) ∷ ‵ (ShrSlice (named 2) κ-input-values f64 .own (ref-input-values γ-input-values input-values) (sliceVal (b-input-values, o-input-values) (length input-values) ∷ [])) ∷ ‵ (ShrSlice (named 3) κ-list usize .own (ref-list γ-list «list») (sliceVal (b-list, o-list) (length «list») ∷ [])) ∷ ‵ (MutSlice (named 4) κ-permutation usize .own (ref-permutation γ-permutation c3-permutation) (sliceVal (b-permutation, o-permutation) (length permutation) ∷ [])) ∷ ‵ (MutSlice (named 5) κ-firsts usize .own (ref-firsts γ-firsts c3-firsts) (sliceVal (b-firsts, o-firsts) (length firsts) ∷ [])) ∷ ‵ (MutSlice (named 6) κ-starts usize .own (ref-starts γ-starts c3-starts) (sliceVal (b-starts, o-starts) (length starts) ∷ [])) ∷ ‵ (MutSlice (named 7) κ-groups usize .own (ref-groups γ-groups c3-groups) (sliceVal (b-groups, o-groups) (length groups) ∷ [])) ∷ ‵ (MutSlice (named 8) κ-tasks usize .own (ref-tasks γ-tasks c3-tasks) (sliceVal (b-tasks, o-tasks) (length tasks) ∷ [])) ∷ ‵ (MutSlice (named 9) κ-top usize .own (ref-top γ-top c3-top) (sliceVal (b-top, o-top) (length top) ∷ [])) ∷ ‵ (MutSlice (named 10) κ-words usize .own (ref-words γ-words c3-words) (sliceVal (b-words, o-words) (length words) ∷ [])) ∷ ‵ (MutSlice (named 11) κ-floats f64 .own (ref-floats γ-floats c3-floats) (sliceVal (b-floats, o-floats) (length floats) ∷ [])) ∷ ‵ (MutSlice (named 12) κ-rows usize .own (ref-rows γ-rows c3-rows) (sliceVal (b-rows, o-rows) (length rows) ∷ [])) ∷ ‵ (MutSlice (named 13) κ-updates T-Update.the-row .own (ref-updates γ-updates c3-updates) (sliceVal (b-updates, o-updates) (length updates) ∷ [])) ∷ ‵ (MutSlice (named 14) κ-values f64 .own (ref-values γ-values c3-values) (sliceVal (b-values, o-values) (length values) ∷ [])) ∷ ‵ (MutRef (named 15) κ-results (Array usize 12) .own (ref-results γ-results c4-results) (s-results ∷ [])) ∷ [])) (Post r4)
+  exits : (u1 : Order) (r1 : Val) (is1 : Is T-Order.the-row u1 (r1 ∷ [])) (d1 : u1 ≡ orderSaid order) (u2 : Stop) (r2 : Val) (is2 : Is T-Stop.the-row u2 (r2 ∷ [])) (d2 : u2 ≡ stopSaid stop) (u3 : Outcome) (r3 : Val) (is3 : Is T-Outcome.the-row u3 (r3 ∷ [])) (c3-permutation : List ℕ) (c3-firsts : List ℕ) (c3-starts : List ℕ) (c3-groups : List ℕ) (c3-tasks : List ℕ) (c3-top : List ℕ) (c3-words : List ℕ) (c3-floats : List Float) (c3-rows : List ℕ) (c3-updates : List Update) (c3-values : List Float) (d3 : Factors (matrix n (input-starts) (input-rows) (input-values)) cap u1 («list») u2 (record { permutation = length (permutation); firsts = length (firsts); starts = length (starts); groups = length (groups); tasks = length (tasks); top = length (top); words = length (words); floats = length (floats); rows = length (rows); updates = length (updates); values = length (values) }) (record { returned = u3; areas = record { permutation = c3-permutation; firsts = c3-firsts; starts = c3-starts; groups = c3-groups; tasks = c3-tasks; top = c3-top; words = c3-words; floats = c3-floats; rows = c3-rows; updates = c3-updates; values = c3-values } })) (same3-permutation : length c3-permutation ≡ length permutation) (same3-firsts : length c3-firsts ≡ length firsts) (same3-starts : length c3-starts ≡ length starts) (same3-groups : length c3-groups ≡ length groups) (same3-tasks : length c3-tasks ≡ length tasks) (same3-top : length c3-top ≡ length top) (same3-words : length c3-words ≡ length words) (same3-floats : length c3-floats ≡ length floats) (same3-rows : length c3-rows ≡ length rows) (same3-updates : length c3-updates ≡ length updates) (same3-values : length c3-values ≡ length values) (u4 : ℕ) (r4 : Val) (is4 : Is usize u4 (r4 ∷ [])) (c4-results : List ℕ) (d4 : (c4-results ≡ outcomeWords u3) × (u4 ≡ number (u3 .answer))) → ent 𝓤 (⋆ 𝓤 H A (‵ (flft κ-input-starts q-input-starts) ∷ ‵ (flft κ-input-rows q-input-rows) ∷ ‵ (flft κ-input-values q-input-values) ∷ ‵ (flft κ-list q-list) ∷ ‵ (flft κ-permutation q-permutation) ∷ ‵ (flft κ-firsts q-firsts) ∷ ‵ (flft κ-starts q-starts) ∷ ‵ (flft κ-groups q-groups) ∷ ‵ (flft κ-tasks q-tasks) ∷ ‵ (flft κ-top q-top) ∷ ‵ (flft κ-words q-words) ∷ ‵ (flft κ-floats q-floats) ∷ ‵ (flft κ-rows q-rows) ∷ ‵ (flft κ-updates q-updates) ∷ ‵ (flft κ-values q-values) ∷ ‵ (flft κ-results q-results) ∷ ‵ (ShrSlice (named 0) κ-input-starts usize .own (ref-input-starts γ-input-starts input-starts) (sliceVal (b-input-starts, o-input-starts) (length input-starts) ∷ [])) ∷ ‵ (ShrSlice (named 1) κ-input-rows usize .own (ref-input-rows γ-input-rows input-rows) (sliceVal (b-input-rows, o-input-rows) (length input-rows) ∷ [])) ∷ ‵ (ShrSlice (named 2) κ-input-values f64 .own (ref-input-values γ-input-values input-values) (sliceVal (b-input-values, o-input-values) (length input-values) ∷ [])) ∷ ‵ (ShrSlice (named 3) κ-list usize .own (ref-list γ-list «list») (sliceVal (b-list, o-list) (length «list») ∷ [])) ∷ ‵ (MutSlice (named 4) κ-permutation usize .own (ref-permutation γ-permutation c3-permutation) (sliceVal (b-permutation, o-permutation) (length permutation) ∷ [])) ∷ ‵ (MutSlice (named 5) κ-firsts usize .own (ref-firsts γ-firsts c3-firsts) (sliceVal (b-firsts, o-firsts) (length firsts) ∷ [])) ∷ ‵ (MutSlice (named 6) κ-starts usize .own (ref-starts γ-starts c3-starts) (sliceVal (b-starts, o-starts) (length starts) ∷ [])) ∷ ‵ (MutSlice (named 7) κ-groups usize .own (ref-groups γ-groups c3-groups) (sliceVal (b-groups, o-groups) (length groups) ∷ [])) ∷ ‵ (MutSlice (named 8) κ-tasks usize .own (ref-tasks γ-tasks c3-tasks) (sliceVal (b-tasks, o-tasks) (length tasks) ∷ [])) ∷ ‵ (MutSlice (named 9) κ-top usize .own (ref-top γ-top c3-top) (sliceVal (b-top, o-top) (length top) ∷ [])) ∷ ‵ (MutSlice (named 10) κ-words usize .own (ref-words γ-words c3-words) (sliceVal (b-words, o-words) (length words) ∷ [])) ∷ ‵ (MutSlice (named 11) κ-floats f64 .own (ref-floats γ-floats c3-floats) (sliceVal (b-floats, o-floats) (length floats) ∷ [])) ∷ ‵ (MutSlice (named 12) κ-rows usize .own (ref-rows γ-rows c3-rows) (sliceVal (b-rows, o-rows) (length rows) ∷ [])) ∷ ‵ (MutSlice (named 13) κ-updates T-Update.the-row .own (ref-updates γ-updates c3-updates) (sliceVal (b-updates, o-updates) (length updates) ∷ [])) ∷ ‵ (MutSlice (named 14) κ-values f64 .own (ref-values γ-values c3-values) (sliceVal (b-values, o-values) (length values) ∷ [])) ∷ ‵ (MutRef (named 15) κ-results (Array usize 12) .own (ref-results γ-results c4-results) (s-results ∷ [])) ∷ [])) (Post r4)
   exits u1 r1 is1 d1 u2 r2 is2 d2 u3 r3 is3 c3-permutation c3-firsts c3-starts c3-groups c3-tasks c3-top c3-words c3-floats c3-rows c3-updates c3-values d3 same3-permutation same3-firsts same3-starts same3-groups same3-tasks same3-top same3-words same3-floats same3-rows same3-updates same3-values u4 r4 is4 c4-results d4 =
-      let told : FactorCrossed (factor (matrix n (input-starts) (input-rows) (input-values)) cap (orderSaid order) («list») (stopSaid stop) (lentAll (length (permutation)) (length (firsts)) (length (starts)) (length (groups)) (length (tasks)) (length (top)) (length (words)) (length (floats)) (length (rows)) (length (updates)) (length (values)))) u4 (c4-results) (c3-permutation) (c3-firsts) (c3-starts) (c3-groups) (c3-tasks) (c3-top) (c3-words) (c3-floats) (c3-rows) (c3-updates) (c3-values) = factored _ _ _ _ d1 d2 d3 (d4 .0) (d4 .1) in qed W (‵ (flft κ-input-starts q-input-starts) ∷ ‵ (flft κ-input-rows q-input-rows) ∷ ‵ (flft κ-input-values q-input-values) ∷ ‵ (flft κ-list q-list) ∷ ‵ (flft κ-permutation q-permutation) ∷ ‵ (flft κ-firsts q-firsts) ∷ ‵ (flft κ-starts q-starts) ∷ ‵ (flft κ-groups q-groups) ∷ ‵ (flft κ-tasks q-tasks) ∷ ‵ (flft κ-top q-top) ∷ ‵ (flft κ-words q-words) ∷ ‵ (flft κ-floats q-floats) ∷ ‵ (flft κ-rows q-rows) ∷ ‵ (flft κ-updates q-updates) ∷ ‵ (flft κ-values q-values) ∷ ‵ (flft κ-results q-results) ∷ ‵ (ShrSlice (named 0) κ-input-starts usize .own (ref-input-starts γ-input-starts input-starts) (sliceVal (b-input-starts, o-input-starts) (length input-starts) ∷ [])) ∷ ‵ (ShrSlice (named 1) κ-input-rows usize .own (ref-input-rows γ-input-rows input-rows) (sliceVal (b-input-rows, o-input-rows) (length input-rows) ∷ [])) ∷ ‵ (ShrSlice (named 2) κ-input-values f64 .own (ref-input-values γ-input-values input-values) (sliceVal (b-input-values, o-input-values) (length input-values) ∷ [])) ∷ ‵ (ShrSlice (named 3) κ-list usize .own (ref-list γ-list «list») (sliceVal (b-list, o-list) (length «list») ∷ [])) ∷ ‵ (MutSlice (named 4) κ-permutation usize .own (ref-permutation γ-permutation c3-permutation) (sliceVal (b-permutation, o-permutation) (length permutation) ∷ [])) ∷ ‵ (MutSlice (named 5) κ-firsts usize .own (ref-firsts γ-firsts c3-firsts) (sliceVal (b-firsts, o-firsts) (length firsts) ∷ [])) ∷ ‵ (MutSlice (named 6) κ-starts usize .own (ref-starts γ-starts c3-starts) (sliceVal (b-starts, o-starts) (length starts) ∷ [])) ∷ ‵ (MutSlice (named 7) κ-groups usize .own (ref-groups γ-groups c3-groups) (sliceVal (b-groups, o-groups) (length groups) ∷ [])) ∷ ‵ (MutSlice (named 8) κ-tasks usize .own (ref-tasks γ-tasks c3-tasks) (sliceVal (b-tasks, o-tasks) (length tasks) ∷ [])) ∷ ‵ (MutSlice (named 9) κ-top usize .own (ref-top γ-top c3-top) (sliceVal (b-top, o-top) (length top) ∷ [])) ∷ ‵ (MutSlice (named 10) κ-words usize .own (ref-words γ-words c3-words) (sliceVal (b-words, o-words) (length words) ∷ [])) ∷ ‵ (MutSlice (named 11) κ-floats f64 .own (ref-floats γ-floats c3-floats) (sliceVal (b-floats, o-floats) (length floats) ∷ [])) ∷ ‵ (MutSlice (named 12) κ-rows usize .own (ref-rows γ-rows c3-rows) (sliceVal (b-rows, o-rows) (length rows) ∷ [])) ∷ ‵ (MutSlice (named 13) κ-updates T-Update.the-row .own (ref-updates γ-updates c3-updates) (sliceVal (b-updates, o-updates) (length updates) ∷ [])) ∷ ‵ (MutSlice (named 14) κ-values f64 .own (ref-values γ-values c3-values) (sliceVal (b-values, o-values) (length values) ∷ [])) ∷ ‵ (MutRef (named 15) κ-results (Array usize 12) .own (ref-results γ-results c4-results) (s-results ∷ [])) ∷ []) ∵
+      let told : Crossed (factor (matrix n (input-starts) (input-rows) (input-values)) cap (orderSaid order) («list») (stopSaid stop) (record { permutation = length (permutation); firsts = length (firsts); starts = length (starts); groups = length (groups); tasks = length (tasks); top = length (top); words = length (words); floats = length (floats); rows = length (rows); updates = length (updates); values = length (values) })) u4 (c4-results) (record { permutation = c3-permutation; firsts = c3-firsts; starts = c3-starts; groups = c3-groups; tasks = c3-tasks; top = c3-top; words = c3-words; floats = c3-floats; rows = c3-rows; updates = c3-updates; values = c3-values }) = factored _ _ _ _ d1 d2 d3 (d4 .0) (d4 .1) in qed W (‵ (flft κ-input-starts q-input-starts) ∷ ‵ (flft κ-input-rows q-input-rows) ∷ ‵ (flft κ-input-values q-input-values) ∷ ‵ (flft κ-list q-list) ∷ ‵ (flft κ-permutation q-permutation) ∷ ‵ (flft κ-firsts q-firsts) ∷ ‵ (flft κ-starts q-starts) ∷ ‵ (flft κ-groups q-groups) ∷ ‵ (flft κ-tasks q-tasks) ∷ ‵ (flft κ-top q-top) ∷ ‵ (flft κ-words q-words) ∷ ‵ (flft κ-floats q-floats) ∷ ‵ (flft κ-rows q-rows) ∷ ‵ (flft κ-updates q-updates) ∷ ‵ (flft κ-values q-values) ∷ ‵ (flft κ-results q-results) ∷ ‵ (ShrSlice (named 0) κ-input-starts usize .own (ref-input-starts γ-input-starts input-starts) (sliceVal (b-input-starts, o-input-starts) (length input-starts) ∷ [])) ∷ ‵ (ShrSlice (named 1) κ-input-rows usize .own (ref-input-rows γ-input-rows input-rows) (sliceVal (b-input-rows, o-input-rows) (length input-rows) ∷ [])) ∷ ‵ (ShrSlice (named 2) κ-input-values f64 .own (ref-input-values γ-input-values input-values) (sliceVal (b-input-values, o-input-values) (length input-values) ∷ [])) ∷ ‵ (ShrSlice (named 3) κ-list usize .own (ref-list γ-list «list») (sliceVal (b-list, o-list) (length «list») ∷ [])) ∷ ‵ (MutSlice (named 4) κ-permutation usize .own (ref-permutation γ-permutation c3-permutation) (sliceVal (b-permutation, o-permutation) (length permutation) ∷ [])) ∷ ‵ (MutSlice (named 5) κ-firsts usize .own (ref-firsts γ-firsts c3-firsts) (sliceVal (b-firsts, o-firsts) (length firsts) ∷ [])) ∷ ‵ (MutSlice (named 6) κ-starts usize .own (ref-starts γ-starts c3-starts) (sliceVal (b-starts, o-starts) (length starts) ∷ [])) ∷ ‵ (MutSlice (named 7) κ-groups usize .own (ref-groups γ-groups c3-groups) (sliceVal (b-groups, o-groups) (length groups) ∷ [])) ∷ ‵ (MutSlice (named 8) κ-tasks usize .own (ref-tasks γ-tasks c3-tasks) (sliceVal (b-tasks, o-tasks) (length tasks) ∷ [])) ∷ ‵ (MutSlice (named 9) κ-top usize .own (ref-top γ-top c3-top) (sliceVal (b-top, o-top) (length top) ∷ [])) ∷ ‵ (MutSlice (named 10) κ-words usize .own (ref-words γ-words c3-words) (sliceVal (b-words, o-words) (length words) ∷ [])) ∷ ‵ (MutSlice (named 11) κ-floats f64 .own (ref-floats γ-floats c3-floats) (sliceVal (b-floats, o-floats) (length floats) ∷ [])) ∷ ‵ (MutSlice (named 12) κ-rows usize .own (ref-rows γ-rows c3-rows) (sliceVal (b-rows, o-rows) (length rows) ∷ [])) ∷ ‵ (MutSlice (named 13) κ-updates T-Update.the-row .own (ref-updates γ-updates c3-updates) (sliceVal (b-updates, o-updates) (length updates) ∷ [])) ∷ ‵ (MutSlice (named 14) κ-values f64 .own (ref-values γ-values c3-values) (sliceVal (b-values, o-values) (length values) ∷ [])) ∷ ‵ (MutRef (named 15) κ-results (Array usize 12) .own (ref-results γ-results c4-results) (s-results ∷ [])) ∷ []) ∵
       w-suffices ! _ (ends-at 𝓤 H A here.ended stayed (here.clauses 𝓤 H A mem run) W bound r4 u4 (tt, (tt, (tt, (tt, (tt, (tt, (tt, (tt, (c3-permutation, (c3-firsts, (c3-starts, (c3-groups, (c3-tasks, (c3-top, (c3-words, (c3-floats, (c3-rows, (c3-updates, (c3-values, (c4-results, tt)))))))))))))))))))) (tt, (tt, (tt, (tt, (tt, (tt, (tt, (tt, (same3-permutation, (same3-firsts, (same3-starts, (same3-groups, (same3-tasks, (same3-top, (same3-words, (same3-floats, (same3-rows, (same3-updates, (same3-values, (tt, tt))))))))))))))))))))) $ w-says ! told $
       w-nothing ! $ w-move ! (16 ∷ 0 ∷ []) $ w-join ! $ w-move ! (15 ∷ 0 ∷ []) $ w-join ! $ w-move ! (14 ∷ 0 ∷ []) $ w-join ! $ w-move ! (13 ∷ 0 ∷ []) $ w-join ! $ w-move ! (12 ∷ 0 ∷ []) $ w-join ! $ w-move ! (11 ∷ 0 ∷ []) $ w-join ! $ w-move ! (10 ∷ 0 ∷ []) $ w-join ! $ w-move ! (9 ∷ 0 ∷ []) $ w-join ! $ w-move ! (8 ∷ 0 ∷ []) $ w-join ! $ w-move ! (7 ∷ 0 ∷ []) $ w-join ! $ w-move ! (6 ∷ 0 ∷ []) $ w-join ! $ w-move ! (5 ∷ 0 ∷ []) $ w-join ! $ w-move ! (4 ∷ 0 ∷ []) $ w-join ! $ w-move ! (3 ∷ 0 ∷ []) $ w-join ! $ w-move ! (2 ∷ 0 ∷ []) $ w-join ! $ w-move ! (1 ∷ 0 ∷ []) $ w-join ! $ w-frame ! $
       w-nothing ! $ w-move ! (16 ∷ 0 ∷ []) $ w-fjoin ! $ w-move ! (15 ∷ 0 ∷ []) $ w-fjoin ! $ w-move ! (14 ∷ 0 ∷ []) $ w-fjoin ! $ w-move ! (13 ∷ 0 ∷ []) $ w-fjoin ! $ w-move ! (12 ∷ 0 ∷ []) $ w-fjoin ! $ w-move ! (11 ∷ 0 ∷ []) $ w-fjoin ! $ w-move ! (10 ∷ 0 ∷ []) $ w-fjoin ! $ w-move ! (9 ∷ 0 ∷ []) $ w-fjoin ! $ w-move ! (8 ∷ 0 ∷ []) $ w-fjoin ! $ w-move ! (7 ∷ 0 ∷ []) $ w-fjoin ! $ w-move ! (6 ∷ 0 ∷ []) $ w-fjoin ! $ w-move ! (5 ∷ 0 ∷ []) $ w-fjoin ! $ w-owned ! usize (Is usize) (uint-makes 𝓤 H A W w64) stop _ (refl, fits-stop) $ w-fjoin ! $ w-move ! (4 ∷ 0 ∷ []) $ w-fjoin ! $ w-owned ! usize (Is usize) (uint-makes 𝓤 H A W w64) order _ (refl, fits-order) $ w-fjoin ! $ w-owned ! usize (Is usize) (uint-makes 𝓤 H A W w64) cap _ (refl, fits-cap) $ w-fjoin ! $ w-move ! (3 ∷ 0 ∷ []) $ w-fjoin ! $ w-move ! (2 ∷ 0 ∷ []) $ w-fjoin ! $ w-move ! (1 ∷ 0 ∷ []) $ w-fjoin ! $ w-owned ! usize (Is usize) (uint-makes 𝓤 H A W w64) n _ (refl, fits-n) $ w-fjoin ! $ w-frame ! $
@@ -380,7 +379,7 @@ module _ {M : Type 1} (𝓤 : URA M) (H : Heap 𝓤) (A : Atoms 𝓤) (W : Given
     asked3 u1 r1 is1 d1 u2 r2 is2 d2 ν3-8 δ3-8 ν3-9 δ3-9 ν3-10 δ3-10 ν3-11 δ3-11 ν3-12 δ3-12 ν3-13 δ3-13 ν3-14 δ3-14 ν3-15 δ3-15 ν3-16 δ3-16 ν3-17 δ3-17 ν3-18 δ3-18 =
         qed W ((‵ (flft (κ-input-starts) q-input-starts) ⊛ ‵ (flft (κ-input-rows) q-input-rows) ⊛ ‵ (flft (κ-input-values) q-input-values) ⊛ ‵ (flft (κ-list) q-list) ⊛ ‵ (flft (ν3-8 ∷ []) fullShare) ⊛ ‵ (flft (ν3-9 ∷ []) fullShare) ⊛ ‵ (flft (ν3-10 ∷ []) fullShare) ⊛ ‵ (flft (ν3-11 ∷ []) fullShare) ⊛ ‵ (flft (ν3-12 ∷ []) fullShare) ⊛ ‵ (flft (ν3-13 ∷ []) fullShare) ⊛ ‵ (flft (ν3-14 ∷ []) fullShare) ⊛ ‵ (flft (ν3-15 ∷ []) fullShare) ⊛ ‵ (flft (ν3-16 ∷ []) fullShare) ⊛ ‵ (flft (ν3-17 ∷ []) fullShare) ⊛ ‵ (flft (ν3-18 ∷ []) fullShare) ⊛ ‵ ftrue) ∷ ‵ (owns (usize ∷ ShrSlice (named 0) (κ-input-starts) usize ∷ ShrSlice (named 1) (κ-input-rows) usize ∷ ShrSlice (named 2) (κ-input-values) f64 ∷ usize ∷ T-Order.the-row ∷ ShrSlice (named 3) (κ-list) usize ∷ T-Stop.the-row ∷ MutSlice (named 4) (ν3-8 ∷ []) usize ∷ MutSlice (named 5) (ν3-9 ∷ []) usize ∷ MutSlice (named 6) (ν3-10 ∷ []) usize ∷ MutSlice (named 7) (ν3-11 ∷ []) usize ∷ MutSlice (named 8) (ν3-12 ∷ []) usize ∷ MutSlice (named 9) (ν3-13 ∷ []) usize ∷ MutSlice (named 10) (ν3-14 ∷ []) usize ∷ MutSlice (named 11) (ν3-15 ∷ []) f64 ∷ MutSlice (named 12) (ν3-16 ∷ []) usize ∷ MutSlice (named 13) (ν3-17 ∷ []) T-Update.the-row ∷ MutSlice (named 14) (ν3-18 ∷ []) f64 ∷ []) (n, (ref-input-starts γ-input-starts input-starts, (ref-input-rows γ-input-rows input-rows, (ref-input-values γ-input-values input-values, (cap, (u1, (ref-list γ-list «list», (u2, (ref-permutation δ3-8 permutation, (ref-firsts δ3-9 firsts, (ref-starts δ3-10 starts, (ref-groups δ3-11 groups, (ref-tasks δ3-12 tasks, (ref-top δ3-13 top, (ref-words δ3-14 words, (ref-floats δ3-15 floats, (ref-rows δ3-16 rows, (ref-updates δ3-17 updates, (ref-values δ3-18 values, tt))))))))))))))))))) (vint w64 n ∷ [], (s-input-starts ∷ [], (s-input-rows ∷ [], (s-input-values ∷ [], (vint w64 cap ∷ [], (r1 ∷ [], (s-list ∷ [], (r2 ∷ [], (s-permutation ∷ [], (s-firsts ∷ [], (s-starts ∷ [], (s-groups ∷ [], (s-tasks ∷ [], (s-top ∷ [], (s-words ∷ [], (s-floats ∷ [], (s-rows ∷ [], (s-updates ∷ [], (s-values ∷ [], tt)))))))))))))))))))) ∷ []) ∵ w-join ! $ w-frame ! $ done !
 
-    asked4 : (u1 : Order) (r1 : Val) (is1 : Is T-Order.the-row u1 (r1 ∷ [])) (d1 : u1 ≡ orderSaid order) (u2 : Stop) (r2 : Val) (is2 : Is T-Stop.the-row u2 (r2 ∷ [])) (d2 : u2 ≡ stopSaid stop) (u3 : Outcome) (r3 : Val) (is3 : Is T-Outcome.the-row u3 (r3 ∷ [])) (c3-permutation : List ℕ) (c3-firsts : List ℕ) (c3-starts : List ℕ) (c3-groups : List ℕ) (c3-tasks : List ℕ) (c3-top : List ℕ) (c3-words : List ℕ) (c3-floats : List Float) (c3-rows : List ℕ) (c3-updates : List Update) (c3-values : List Float) (d3 : FactorSettles (factor (matrix n (input-starts) (input-rows) (input-values)) cap u1 («list») u2 (lentAll (length (permutation)) (length (firsts)) (length (starts)) (length (groups)) (length (tasks)) (length (top)) (length (words)) (length (floats)) (length (rows)) (length (updates)) (length (values)))) u3 (c3-permutation) (c3-firsts) (c3-starts) (c3-groups) (c3-tasks) (c3-top) (c3-words) (c3-floats) (c3-rows) (c3-updates) (c3-values)) (same3-permutation : length c3-permutation ≡ length permutation) (same3-firsts : length c3-firsts ≡ length firsts) (same3-starts : length c3-starts ≡ length starts) (same3-groups : length c3-groups ≡ length groups) (same3-tasks : length c3-tasks ≡ length tasks) (same3-top : length c3-top ≡ length top) (same3-words : length c3-words ≡ length words) (same3-floats : length c3-floats ≡ length floats) (same3-rows : length c3-rows ≡ length rows) (same3-updates : length c3-updates ≡ length updates) (same3-values : length c3-values ≡ length values) (ν4-1 : ℕ) (δ4-1 : GName) → ent 𝓤 (onEntry 𝓤 H A f-cross.signature (ν4-1 ∷ [], tt) (fullShare, tt) (u3, (ref-results δ4-1 results, tt)) (r3 ∷ [], (s-results ∷ [], tt))) (C-cross 𝓤 H A mem run .pre (((ν4-1 ∷ [], tt), (fullShare, tt), tt, (u3, (ref-results δ4-1 results, tt)), (r3 ∷ [], (s-results ∷ [], tt))), tt))
+    asked4 : (u1 : Order) (r1 : Val) (is1 : Is T-Order.the-row u1 (r1 ∷ [])) (d1 : u1 ≡ orderSaid order) (u2 : Stop) (r2 : Val) (is2 : Is T-Stop.the-row u2 (r2 ∷ [])) (d2 : u2 ≡ stopSaid stop) (u3 : Outcome) (r3 : Val) (is3 : Is T-Outcome.the-row u3 (r3 ∷ [])) (c3-permutation : List ℕ) (c3-firsts : List ℕ) (c3-starts : List ℕ) (c3-groups : List ℕ) (c3-tasks : List ℕ) (c3-top : List ℕ) (c3-words : List ℕ) (c3-floats : List Float) (c3-rows : List ℕ) (c3-updates : List Update) (c3-values : List Float) (d3 : Factors (matrix n (input-starts) (input-rows) (input-values)) cap u1 («list») u2 (record { permutation = length (permutation); firsts = length (firsts); starts = length (starts); groups = length (groups); tasks = length (tasks); top = length (top); words = length (words); floats = length (floats); rows = length (rows); updates = length (updates); values = length (values) }) (record { returned = u3; areas = record { permutation = c3-permutation; firsts = c3-firsts; starts = c3-starts; groups = c3-groups; tasks = c3-tasks; top = c3-top; words = c3-words; floats = c3-floats; rows = c3-rows; updates = c3-updates; values = c3-values } })) (same3-permutation : length c3-permutation ≡ length permutation) (same3-firsts : length c3-firsts ≡ length firsts) (same3-starts : length c3-starts ≡ length starts) (same3-groups : length c3-groups ≡ length groups) (same3-tasks : length c3-tasks ≡ length tasks) (same3-top : length c3-top ≡ length top) (same3-words : length c3-words ≡ length words) (same3-floats : length c3-floats ≡ length floats) (same3-rows : length c3-rows ≡ length rows) (same3-updates : length c3-updates ≡ length updates) (same3-values : length c3-values ≡ length values) (ν4-1 : ℕ) (δ4-1 : GName) → ent 𝓤 (onEntry 𝓤 H A f-cross.signature (ν4-1 ∷ [], tt) (fullShare, tt) (u3, (ref-results δ4-1 results, tt)) (r3 ∷ [], (s-results ∷ [], tt))) (C-cross 𝓤 H A mem run .pre (((ν4-1 ∷ [], tt), (fullShare, tt), tt, (u3, (ref-results δ4-1 results, tt)), (r3 ∷ [], (s-results ∷ [], tt))), tt))
     asked4 u1 r1 is1 d1 u2 r2 is2 d2 u3 r3 is3 c3-permutation c3-firsts c3-starts c3-groups c3-tasks c3-top c3-words c3-floats c3-rows c3-updates c3-values d3 same3-permutation same3-firsts same3-starts same3-groups same3-tasks same3-top same3-words same3-floats same3-rows same3-updates same3-values ν4-1 δ4-1 =
         qed W ((‵ (flft (ν4-1 ∷ []) fullShare) ⊛ ‵ ftrue) ∷ ‵ (owns (T-Outcome.the-row ∷ MutRef (named 0) (ν4-1 ∷ []) (Array usize 12) ∷ []) (u3, (ref-results δ4-1 results, tt)) (r3 ∷ [], (s-results ∷ [], tt))) ∷ []) ∵ w-join ! $ w-frame ! $ done !
 
@@ -397,7 +396,7 @@ module _ {M : Type 1} (𝓤 : URA M) (H : Heap 𝓤) (A : Atoms 𝓤) (W : Given
       abbrev dying : List (Item 𝓤)
       dying = ‵ (fdies ty0 l0) ∷ ‵ (fdies ty1 l1) ∷ ‵ (fdies ty2 l2) ∷ ‵ (fdies ty3 l3) ∷ ‵ (fdies ty4 l4) ∷ ‵ (fdies ty5 l5) ∷ ‵ (fdies ty6 l6) ∷ ‵ (fdies ty7 l7) ∷ ‵ (fdies ty8 l8) ∷ ‵ (fdies ty9 l9) ∷ ‵ (fdies ty10 l10) ∷ ‵ (fdies ty11 l11) ∷ ‵ (fdies ty12 l12) ∷ ‵ (fdies ty13 l13) ∷ ‵ (fdies ty14 l14) ∷ ‵ (fdies ty15 l15) ∷ ‵ (fdies ty16 l16) ∷ ‵ (fdies ty17 l17) ∷ ‵ (fdies ty18 l18) ∷ ‵ (fdies ty19 l19) ∷ ‵ (fdies ty20 l20) ∷ ‵ (fdies ty21 l21) ∷ ‵ (fdies ty22 l22) ∷ ‵ (fdies ty23 l23) ∷ ‵ (fdies ty24 l24) ∷ ‵ (fdies ty25 l25) ∷ ‵ (fdies ty26 l26) ∷ ‵ (fdies ty27 l27) ∷ ‵ (fdies ty28 l28) ∷ ‵ (fdies ty29 l29) ∷ ‵ (fdies ty30 l30) ∷ ‵ (fdies ty31 l31) ∷ ‵ (fdies ty32 l32) ∷ ‵ (fdies ty33 l33) ∷ ‵ (fdies ty34 l34) ∷ ‵ (fdies ty35 l35) ∷ ‵ (fdies ty36 l36) ∷ ‵ (fdies ty37 l37) ∷ ‵ (fdies ty38 l38) ∷ ‵ (fdies ty39 l39) ∷ ‵ (fdies ty40 l40) ∷ ‵ (fdies ty41 l41) ∷ ‵ (fdies ty42 l42) ∷ ‵ (fdies ty43 l43) ∷ ‵ (fdies ty44 l44) ∷ ‵ (fdies ty45 l45) ∷ ‵ (fdies ty46 l46) ∷ []
 
-      after4 : (u1 : Order) (r1 : Val) (is1 : Is T-Order.the-row u1 (r1 ∷ [])) (d1 : u1 ≡ orderSaid order) (u2 : Stop) (r2 : Val) (is2 : Is T-Stop.the-row u2 (r2 ∷ [])) (d2 : u2 ≡ stopSaid stop) (u3 : Outcome) (r3 : Val) (is3 : Is T-Outcome.the-row u3 (r3 ∷ [])) (c3-permutation : List ℕ) (c3-firsts : List ℕ) (c3-starts : List ℕ) (c3-groups : List ℕ) (c3-tasks : List ℕ) (c3-top : List ℕ) (c3-words : List ℕ) (c3-floats : List Float) (c3-rows : List ℕ) (c3-updates : List Update) (c3-values : List Float) (d3 : FactorSettles (factor (matrix n (input-starts) (input-rows) (input-values)) cap u1 («list») u2 (lentAll (length (permutation)) (length (firsts)) (length (starts)) (length (groups)) (length (tasks)) (length (top)) (length (words)) (length (floats)) (length (rows)) (length (updates)) (length (values)))) u3 (c3-permutation) (c3-firsts) (c3-starts) (c3-groups) (c3-tasks) (c3-top) (c3-words) (c3-floats) (c3-rows) (c3-updates) (c3-values)) (same3-permutation : length c3-permutation ≡ length permutation) (same3-firsts : length c3-firsts ≡ length firsts) (same3-starts : length c3-starts ≡ length starts) (same3-groups : length c3-groups ≡ length groups) (same3-tasks : length c3-tasks ≡ length tasks) (same3-top : length c3-top ≡ length top) (same3-words : length c3-words ≡ length words) (same3-floats : length c3-floats ≡ length floats) (same3-rows : length c3-rows ≡ length rows) (same3-updates : length c3-updates ≡ length updates) (same3-values : length c3-values ≡ length values) (u4 : ℕ) (r4 : Val) (is4 : Is usize u4 (r4 ∷ [])) (c4-results : List ℕ) (d4 : (c4-results ≡ outcomeWords u3) × (u4 ≡ number (u3 .answer))) → Sq W (‵ (ShrSlice (named 0) κ-input-starts usize .own (ref-input-starts γ-input-starts input-starts) (sliceVal (b-input-starts, o-input-starts) (length input-starts) ∷ [])) ∷ ‵ (ShrSlice (named 1) κ-input-rows usize .own (ref-input-rows γ-input-rows input-rows) (sliceVal (b-input-rows, o-input-rows) (length input-rows) ∷ [])) ∷ ‵ (ShrSlice (named 2) κ-input-values f64 .own (ref-input-values γ-input-values input-values) (sliceVal (b-input-values, o-input-values) (length input-values) ∷ [])) ∷ ‵ (ShrSlice (named 3) κ-list usize .own (ref-list γ-list «list») (sliceVal (b-list, o-list) (length «list») ∷ [])) ∷ ‵ (MutSlice (named 4) κ-permutation usize .own (ref-permutation γ-permutation c3-permutation) (sliceVal (b-permutation, o-permutation) (length permutation) ∷ [])) ∷ ‵ (MutSlice (named 5) κ-firsts usize .own (ref-firsts γ-firsts c3-firsts) (sliceVal (b-firsts, o-firsts) (length firsts) ∷ [])) ∷ ‵ (MutSlice (named 6) κ-starts usize .own (ref-starts γ-starts c3-starts) (sliceVal (b-starts, o-starts) (length starts) ∷ [])) ∷ ‵ (MutSlice (named 7) κ-groups usize .own (ref-groups γ-groups c3-groups) (sliceVal (b-groups, o-groups) (length groups) ∷ [])) ∷ ‵ (MutSlice (named 8) κ-tasks usize .own (ref-tasks γ-tasks c3-tasks) (sliceVal (b-tasks, o-tasks) (length tasks) ∷ [])) ∷ ‵ (MutSlice (named 9) κ-top usize .own (ref-top γ-top c3-top) (sliceVal (b-top, o-top) (length top) ∷ [])) ∷ ‵ (MutSlice (named 10) κ-words usize .own (ref-words γ-words c3-words) (sliceVal (b-words, o-words) (length words) ∷ [])) ∷ ‵ (MutSlice (named 11) κ-floats f64 .own (ref-floats γ-floats c3-floats) (sliceVal (b-floats, o-floats) (length floats) ∷ [])) ∷ ‵ (MutSlice (named 12) κ-rows usize .own (ref-rows γ-rows c3-rows) (sliceVal (b-rows, o-rows) (length rows) ∷ [])) ∷ ‵ (MutSlice (named 13) κ-updates T-Update.the-row .own (ref-updates γ-updates c3-updates) (sliceVal (b-updates, o-updates) (length updates) ∷ [])) ∷ ‵ (MutSlice (named 14) κ-values f64 .own (ref-values γ-values c3-values) (sliceVal (b-values, o-values) (length values) ∷ [])) ∷ ‵ (MutRef (named 15) κ-results (Array usize 12) .own (ref-results γ-results c4-results) (s-results ∷ [])) ∷ ‵ (flft κ-input-starts q-input-starts) ∷ ‵ (flft κ-input-rows q-input-rows) ∷ ‵ (flft κ-input-values q-input-values) ∷ ‵ (flft κ-list q-list) ∷ ‵ (flft κ-permutation q-permutation) ∷ ‵ (flft κ-firsts q-firsts) ∷ ‵ (flft κ-starts q-starts) ∷ ‵ (flft κ-groups q-groups) ∷ ‵ (flft κ-tasks q-tasks) ∷ ‵ (flft κ-top q-top) ∷ ‵ (flft κ-words q-words) ∷ ‵ (flft κ-floats q-floats) ∷ ‵ (flft κ-rows q-rows) ∷ ‵ (flft κ-updates q-updates) ∷ ‵ (flft κ-values q-values) ∷ ‵ (flft κ-results q-results) ∷ ‵ (fat fullShare ty0 l0 0 r4) ∷ ‵ (fat fullShare ty1 l1 0 (vint w64 n)) ∷ ‵ (fat fullShare ty2 l2 0 s-input-starts) ∷ ‵ (fat fullShare ty3 l3 0 s-input-rows) ∷ ‵ (fat fullShare ty4 l4 0 s-input-values) ∷ ‵ (fat fullShare ty5 l5 0 (vint w64 cap)) ∷ ‵ (fat fullShare ty6 l6 0 (vint w64 order)) ∷ ‵ (fat fullShare ty7 l7 0 s-list) ∷ ‵ (fat fullShare ty8 l8 0 (vint w64 stop)) ∷ ‵ (fat fullShare ty9 l9 0 s-permutation) ∷ ‵ (fat fullShare ty10 l10 0 s-firsts) ∷ ‵ (fat fullShare ty11 l11 0 s-starts) ∷ ‵ (fat fullShare ty12 l12 0 s-groups) ∷ ‵ (fat fullShare ty13 l13 0 s-tasks) ∷ ‵ (fat fullShare ty14 l14 0 s-top) ∷ ‵ (fat fullShare ty15 l15 0 s-words) ∷ ‵ (fat fullShare ty16 l16 0 s-floats) ∷ ‵ (fat fullShare ty17 l17 0 s-rows) ∷ ‵ (fat fullShare ty18 l18 0 s-updates) ∷ ‵ (fat fullShare ty19 l19 0 s-values) ∷ ‵ (fat fullShare ty20 l20 0 s-results) ∷ ‵ (fat fullShare ty21 l21 0 r1) ∷ ‵ (fat fullShare ty22 l22 0 r2) ∷ ‵ (fat fullShare ty23 l23 0 r3) ∷ raw (Packed 𝓤 H A spare3) ∷ raw (Packed 𝓤 H A spare4) ∷ raw (Packed 𝓤 H A dying) ∷ []) (runs C Λ En body.t-28 (atRet En Post))
+      after4 : (u1 : Order) (r1 : Val) (is1 : Is T-Order.the-row u1 (r1 ∷ [])) (d1 : u1 ≡ orderSaid order) (u2 : Stop) (r2 : Val) (is2 : Is T-Stop.the-row u2 (r2 ∷ [])) (d2 : u2 ≡ stopSaid stop) (u3 : Outcome) (r3 : Val) (is3 : Is T-Outcome.the-row u3 (r3 ∷ [])) (c3-permutation : List ℕ) (c3-firsts : List ℕ) (c3-starts : List ℕ) (c3-groups : List ℕ) (c3-tasks : List ℕ) (c3-top : List ℕ) (c3-words : List ℕ) (c3-floats : List Float) (c3-rows : List ℕ) (c3-updates : List Update) (c3-values : List Float) (d3 : Factors (matrix n (input-starts) (input-rows) (input-values)) cap u1 («list») u2 (record { permutation = length (permutation); firsts = length (firsts); starts = length (starts); groups = length (groups); tasks = length (tasks); top = length (top); words = length (words); floats = length (floats); rows = length (rows); updates = length (updates); values = length (values) }) (record { returned = u3; areas = record { permutation = c3-permutation; firsts = c3-firsts; starts = c3-starts; groups = c3-groups; tasks = c3-tasks; top = c3-top; words = c3-words; floats = c3-floats; rows = c3-rows; updates = c3-updates; values = c3-values } })) (same3-permutation : length c3-permutation ≡ length permutation) (same3-firsts : length c3-firsts ≡ length firsts) (same3-starts : length c3-starts ≡ length starts) (same3-groups : length c3-groups ≡ length groups) (same3-tasks : length c3-tasks ≡ length tasks) (same3-top : length c3-top ≡ length top) (same3-words : length c3-words ≡ length words) (same3-floats : length c3-floats ≡ length floats) (same3-rows : length c3-rows ≡ length rows) (same3-updates : length c3-updates ≡ length updates) (same3-values : length c3-values ≡ length values) (u4 : ℕ) (r4 : Val) (is4 : Is usize u4 (r4 ∷ [])) (c4-results : List ℕ) (d4 : (c4-results ≡ outcomeWords u3) × (u4 ≡ number (u3 .answer))) → Sq W (‵ (ShrSlice (named 0) κ-input-starts usize .own (ref-input-starts γ-input-starts input-starts) (sliceVal (b-input-starts, o-input-starts) (length input-starts) ∷ [])) ∷ ‵ (ShrSlice (named 1) κ-input-rows usize .own (ref-input-rows γ-input-rows input-rows) (sliceVal (b-input-rows, o-input-rows) (length input-rows) ∷ [])) ∷ ‵ (ShrSlice (named 2) κ-input-values f64 .own (ref-input-values γ-input-values input-values) (sliceVal (b-input-values, o-input-values) (length input-values) ∷ [])) ∷ ‵ (ShrSlice (named 3) κ-list usize .own (ref-list γ-list «list») (sliceVal (b-list, o-list) (length «list») ∷ [])) ∷ ‵ (MutSlice (named 4) κ-permutation usize .own (ref-permutation γ-permutation c3-permutation) (sliceVal (b-permutation, o-permutation) (length permutation) ∷ [])) ∷ ‵ (MutSlice (named 5) κ-firsts usize .own (ref-firsts γ-firsts c3-firsts) (sliceVal (b-firsts, o-firsts) (length firsts) ∷ [])) ∷ ‵ (MutSlice (named 6) κ-starts usize .own (ref-starts γ-starts c3-starts) (sliceVal (b-starts, o-starts) (length starts) ∷ [])) ∷ ‵ (MutSlice (named 7) κ-groups usize .own (ref-groups γ-groups c3-groups) (sliceVal (b-groups, o-groups) (length groups) ∷ [])) ∷ ‵ (MutSlice (named 8) κ-tasks usize .own (ref-tasks γ-tasks c3-tasks) (sliceVal (b-tasks, o-tasks) (length tasks) ∷ [])) ∷ ‵ (MutSlice (named 9) κ-top usize .own (ref-top γ-top c3-top) (sliceVal (b-top, o-top) (length top) ∷ [])) ∷ ‵ (MutSlice (named 10) κ-words usize .own (ref-words γ-words c3-words) (sliceVal (b-words, o-words) (length words) ∷ [])) ∷ ‵ (MutSlice (named 11) κ-floats f64 .own (ref-floats γ-floats c3-floats) (sliceVal (b-floats, o-floats) (length floats) ∷ [])) ∷ ‵ (MutSlice (named 12) κ-rows usize .own (ref-rows γ-rows c3-rows) (sliceVal (b-rows, o-rows) (length rows) ∷ [])) ∷ ‵ (MutSlice (named 13) κ-updates T-Update.the-row .own (ref-updates γ-updates c3-updates) (sliceVal (b-updates, o-updates) (length updates) ∷ [])) ∷ ‵ (MutSlice (named 14) κ-values f64 .own (ref-values γ-values c3-values) (sliceVal (b-values, o-values) (length values) ∷ [])) ∷ ‵ (MutRef (named 15) κ-results (Array usize 12) .own (ref-results γ-results c4-results) (s-results ∷ [])) ∷ ‵ (flft κ-input-starts q-input-starts) ∷ ‵ (flft κ-input-rows q-input-rows) ∷ ‵ (flft κ-input-values q-input-values) ∷ ‵ (flft κ-list q-list) ∷ ‵ (flft κ-permutation q-permutation) ∷ ‵ (flft κ-firsts q-firsts) ∷ ‵ (flft κ-starts q-starts) ∷ ‵ (flft κ-groups q-groups) ∷ ‵ (flft κ-tasks q-tasks) ∷ ‵ (flft κ-top q-top) ∷ ‵ (flft κ-words q-words) ∷ ‵ (flft κ-floats q-floats) ∷ ‵ (flft κ-rows q-rows) ∷ ‵ (flft κ-updates q-updates) ∷ ‵ (flft κ-values q-values) ∷ ‵ (flft κ-results q-results) ∷ ‵ (fat fullShare ty0 l0 0 r4) ∷ ‵ (fat fullShare ty1 l1 0 (vint w64 n)) ∷ ‵ (fat fullShare ty2 l2 0 s-input-starts) ∷ ‵ (fat fullShare ty3 l3 0 s-input-rows) ∷ ‵ (fat fullShare ty4 l4 0 s-input-values) ∷ ‵ (fat fullShare ty5 l5 0 (vint w64 cap)) ∷ ‵ (fat fullShare ty6 l6 0 (vint w64 order)) ∷ ‵ (fat fullShare ty7 l7 0 s-list) ∷ ‵ (fat fullShare ty8 l8 0 (vint w64 stop)) ∷ ‵ (fat fullShare ty9 l9 0 s-permutation) ∷ ‵ (fat fullShare ty10 l10 0 s-firsts) ∷ ‵ (fat fullShare ty11 l11 0 s-starts) ∷ ‵ (fat fullShare ty12 l12 0 s-groups) ∷ ‵ (fat fullShare ty13 l13 0 s-tasks) ∷ ‵ (fat fullShare ty14 l14 0 s-top) ∷ ‵ (fat fullShare ty15 l15 0 s-words) ∷ ‵ (fat fullShare ty16 l16 0 s-floats) ∷ ‵ (fat fullShare ty17 l17 0 s-rows) ∷ ‵ (fat fullShare ty18 l18 0 s-updates) ∷ ‵ (fat fullShare ty19 l19 0 s-values) ∷ ‵ (fat fullShare ty20 l20 0 s-results) ∷ ‵ (fat fullShare ty21 l21 0 r1) ∷ ‵ (fat fullShare ty22 l22 0 r2) ∷ ‵ (fat fullShare ty23 l23 0 r3) ∷ raw (Packed 𝓤 H A spare3) ∷ raw (Packed 𝓤 H A spare4) ∷ raw (Packed 𝓤 H A dying) ∷ []) (runs C Λ En body.t-28 (atRet En Post))
       after4 u1 r1 is1 d1 u2 r2 is2 d2 u3 r3 is3 c3-permutation c3-firsts c3-starts c3-groups c3-tasks c3-top c3-words c3-floats c3-rows c3-updates c3-values d3 same3-permutation same3-firsts same3-starts same3-groups same3-tasks same3-top same3-words same3-floats same3-rows same3-updates same3-values u4 r4 is4 c4-results d4 =
           w-returns ! (w-look ! 32 refl) $ w-forget ! 32 refl $ w-forget ! 33 refl $ w-forget ! 34 refl $ w-forget ! 35 refl $ w-forget ! 36 refl $ w-forget ! 37 refl $ w-forget ! 38 refl $ w-forget ! 39 refl $ w-forget ! 40 refl $ w-forget ! 41 refl $ w-forget ! 42 refl $ w-forget ! 43 refl $ w-forget ! 44 refl $ w-forget ! 45 refl $ w-forget ! 46 refl $ w-forget ! 47 refl $ w-forget ! 48 refl $ w-forget ! 49 refl $ w-forget ! 50 refl $ w-forget ! 51 refl $ w-forget ! 52 refl $ w-forget ! 53 refl $ w-forget ! 54 refl $ w-forget ! 55 refl $
           w-move ! (56 ∷ []) $ w-unpack ! (‵ (froom ty24 l24 0) ∷ ‵ (froom ty25 l25 0) ∷ ‵ (froom ty26 l26 0) ∷ ‵ (froom ty27 l27 0) ∷ ‵ (froom ty28 l28 0) ∷ ‵ (froom ty29 l29 0) ∷ ‵ (froom ty30 l30 0) ∷ ‵ (froom ty31 l31 0) ∷ ‵ (froom ty32 l32 0) ∷ ‵ (froom ty33 l33 0) ∷ ‵ (froom ty34 l34 0) ∷ ‵ (froom ty35 l35 0) ∷ ‵ (froom ty36 l36 0) ∷ ‵ (froom ty37 l37 0) ∷ ‵ (froom ty38 l38 0) ∷ ‵ (froom ty39 l39 0) ∷ ‵ (froom ty40 l40 0) ∷ ‵ (froom ty41 l41 0) ∷ ‵ (froom ty42 l42 0) ∷ ‵ (froom ty43 l43 0) ∷ ‵ (froom ty44 l44 0) ∷ ‵ (froom ty45 l45 0) ∷ []) $
@@ -406,7 +405,7 @@ module _ {M : Type 1} (𝓤 : URA M) (H : Heap 𝓤) (A : Atoms 𝓤) (W : Given
           w-move ! (102 ∷ 0 ∷ 103 ∷ 1 ∷ 104 ∷ 2 ∷ 105 ∷ 3 ∷ 106 ∷ 4 ∷ 107 ∷ 5 ∷ 108 ∷ 6 ∷ 109 ∷ 7 ∷ 110 ∷ 8 ∷ 111 ∷ 9 ∷ 112 ∷ 10 ∷ 113 ∷ 11 ∷ 114 ∷ 12 ∷ 115 ∷ 13 ∷ 116 ∷ 14 ∷ 117 ∷ 15 ∷ 118 ∷ 16 ∷ 119 ∷ 17 ∷ 120 ∷ 18 ∷ 121 ∷ 19 ∷ 122 ∷ 20 ∷ 123 ∷ 21 ∷ 124 ∷ 22 ∷ 125 ∷ 23 ∷ 48 ∷ 24 ∷ 49 ∷ 25 ∷ 50 ∷ 26 ∷ 51 ∷ 27 ∷ 52 ∷ 28 ∷ 53 ∷ 29 ∷ 54 ∷ 30 ∷ 55 ∷ 31 ∷ 56 ∷ 32 ∷ 57 ∷ 33 ∷ 58 ∷ 34 ∷ 59 ∷ 35 ∷ 60 ∷ 36 ∷ 61 ∷ 37 ∷ 62 ∷ 38 ∷ 63 ∷ 39 ∷ 64 ∷ 40 ∷ 65 ∷ 41 ∷ 66 ∷ 42 ∷ 67 ∷ 43 ∷ 68 ∷ 44 ∷ 69 ∷ 45 ∷ 47 ∷ 46 ∷ []) $ w-homes-freed ! En $
           w-keep ! (16 ∷ 17 ∷ 18 ∷ 19 ∷ 20 ∷ 21 ∷ 22 ∷ 23 ∷ 24 ∷ 25 ∷ 26 ∷ 27 ∷ 28 ∷ 29 ∷ 30 ∷ 31 ∷ 0 ∷ 1 ∷ 2 ∷ 3 ∷ 4 ∷ 5 ∷ 6 ∷ 7 ∷ 8 ∷ 9 ∷ 10 ∷ 11 ∷ 12 ∷ 13 ∷ 14 ∷ 15 ∷ []) $ w-by ! (exits u1 r1 is1 d1 u2 r2 is2 d2 u3 r3 is3 c3-permutation c3-firsts c3-starts c3-groups c3-tasks c3-top c3-words c3-floats c3-rows c3-updates c3-values d3 same3-permutation same3-firsts same3-starts same3-groups same3-tasks same3-top same3-words same3-floats same3-rows same3-updates same3-values u4 r4 is4 c4-results d4)
 
-      after3 : (u1 : Order) (r1 : Val) (is1 : Is T-Order.the-row u1 (r1 ∷ [])) (d1 : u1 ≡ orderSaid order) (u2 : Stop) (r2 : Val) (is2 : Is T-Stop.the-row u2 (r2 ∷ [])) (d2 : u2 ≡ stopSaid stop) (u3 : Outcome) (r3 : Val) (is3 : Is T-Outcome.the-row u3 (r3 ∷ [])) (c3-permutation : List ℕ) (c3-firsts : List ℕ) (c3-starts : List ℕ) (c3-groups : List ℕ) (c3-tasks : List ℕ) (c3-top : List ℕ) (c3-words : List ℕ) (c3-floats : List Float) (c3-rows : List ℕ) (c3-updates : List Update) (c3-values : List Float) (d3 : FactorSettles (factor (matrix n (input-starts) (input-rows) (input-values)) cap u1 («list») u2 (lentAll (length (permutation)) (length (firsts)) (length (starts)) (length (groups)) (length (tasks)) (length (top)) (length (words)) (length (floats)) (length (rows)) (length (updates)) (length (values)))) u3 (c3-permutation) (c3-firsts) (c3-starts) (c3-groups) (c3-tasks) (c3-top) (c3-words) (c3-floats) (c3-rows) (c3-updates) (c3-values)) (same3-permutation : length c3-permutation ≡ length permutation) (same3-firsts : length c3-firsts ≡ length firsts) (same3-starts : length c3-starts ≡ length starts) (same3-groups : length c3-groups ≡ length groups) (same3-tasks : length c3-tasks ≡ length tasks) (same3-top : length c3-top ≡ length top) (same3-words : length c3-words ≡ length words) (same3-floats : length c3-floats ≡ length floats) (same3-rows : length c3-rows ≡ length rows) (same3-updates : length c3-updates ≡ length updates) (same3-values : length c3-values ≡ length values) → Sq W (‵ (ShrSlice (named 0) κ-input-starts usize .own (ref-input-starts γ-input-starts input-starts) (sliceVal (b-input-starts, o-input-starts) (length input-starts) ∷ [])) ∷ ‵ (ShrSlice (named 1) κ-input-rows usize .own (ref-input-rows γ-input-rows input-rows) (sliceVal (b-input-rows, o-input-rows) (length input-rows) ∷ [])) ∷ ‵ (ShrSlice (named 2) κ-input-values f64 .own (ref-input-values γ-input-values input-values) (sliceVal (b-input-values, o-input-values) (length input-values) ∷ [])) ∷ ‵ (ShrSlice (named 3) κ-list usize .own (ref-list γ-list «list») (sliceVal (b-list, o-list) (length «list») ∷ [])) ∷ ‵ (MutSlice (named 4) κ-permutation usize .own (ref-permutation γ-permutation c3-permutation) (sliceVal (b-permutation, o-permutation) (length permutation) ∷ [])) ∷ ‵ (MutSlice (named 5) κ-firsts usize .own (ref-firsts γ-firsts c3-firsts) (sliceVal (b-firsts, o-firsts) (length firsts) ∷ [])) ∷ ‵ (MutSlice (named 6) κ-starts usize .own (ref-starts γ-starts c3-starts) (sliceVal (b-starts, o-starts) (length starts) ∷ [])) ∷ ‵ (MutSlice (named 7) κ-groups usize .own (ref-groups γ-groups c3-groups) (sliceVal (b-groups, o-groups) (length groups) ∷ [])) ∷ ‵ (MutSlice (named 8) κ-tasks usize .own (ref-tasks γ-tasks c3-tasks) (sliceVal (b-tasks, o-tasks) (length tasks) ∷ [])) ∷ ‵ (MutSlice (named 9) κ-top usize .own (ref-top γ-top c3-top) (sliceVal (b-top, o-top) (length top) ∷ [])) ∷ ‵ (MutSlice (named 10) κ-words usize .own (ref-words γ-words c3-words) (sliceVal (b-words, o-words) (length words) ∷ [])) ∷ ‵ (MutSlice (named 11) κ-floats f64 .own (ref-floats γ-floats c3-floats) (sliceVal (b-floats, o-floats) (length floats) ∷ [])) ∷ ‵ (MutSlice (named 12) κ-rows usize .own (ref-rows γ-rows c3-rows) (sliceVal (b-rows, o-rows) (length rows) ∷ [])) ∷ ‵ (MutSlice (named 13) κ-updates T-Update.the-row .own (ref-updates γ-updates c3-updates) (sliceVal (b-updates, o-updates) (length updates) ∷ [])) ∷ ‵ (MutSlice (named 14) κ-values f64 .own (ref-values γ-values c3-values) (sliceVal (b-values, o-values) (length values) ∷ [])) ∷ ‵ (MutRef (named 15) κ-results (Array usize 12) .own (ref-results γ-results results) (s-results ∷ [])) ∷ ‵ (flft κ-input-starts q-input-starts) ∷ ‵ (flft κ-input-rows q-input-rows) ∷ ‵ (flft κ-input-values q-input-values) ∷ ‵ (flft κ-list q-list) ∷ ‵ (flft κ-permutation q-permutation) ∷ ‵ (flft κ-firsts q-firsts) ∷ ‵ (flft κ-starts q-starts) ∷ ‵ (flft κ-groups q-groups) ∷ ‵ (flft κ-tasks q-tasks) ∷ ‵ (flft κ-top q-top) ∷ ‵ (flft κ-words q-words) ∷ ‵ (flft κ-floats q-floats) ∷ ‵ (flft κ-rows q-rows) ∷ ‵ (flft κ-updates q-updates) ∷ ‵ (flft κ-values q-values) ∷ ‵ (flft κ-results q-results) ∷ ‵ (froom ty0 l0 0) ∷ ‵ (fat fullShare ty1 l1 0 (vint w64 n)) ∷ ‵ (fat fullShare ty2 l2 0 s-input-starts) ∷ ‵ (fat fullShare ty3 l3 0 s-input-rows) ∷ ‵ (fat fullShare ty4 l4 0 s-input-values) ∷ ‵ (fat fullShare ty5 l5 0 (vint w64 cap)) ∷ ‵ (fat fullShare ty6 l6 0 (vint w64 order)) ∷ ‵ (fat fullShare ty7 l7 0 s-list) ∷ ‵ (fat fullShare ty8 l8 0 (vint w64 stop)) ∷ ‵ (fat fullShare ty9 l9 0 s-permutation) ∷ ‵ (fat fullShare ty10 l10 0 s-firsts) ∷ ‵ (fat fullShare ty11 l11 0 s-starts) ∷ ‵ (fat fullShare ty12 l12 0 s-groups) ∷ ‵ (fat fullShare ty13 l13 0 s-tasks) ∷ ‵ (fat fullShare ty14 l14 0 s-top) ∷ ‵ (fat fullShare ty15 l15 0 s-words) ∷ ‵ (fat fullShare ty16 l16 0 s-floats) ∷ ‵ (fat fullShare ty17 l17 0 s-rows) ∷ ‵ (fat fullShare ty18 l18 0 s-updates) ∷ ‵ (fat fullShare ty19 l19 0 s-values) ∷ ‵ (fat fullShare ty20 l20 0 s-results) ∷ ‵ (fat fullShare ty21 l21 0 r1) ∷ ‵ (fat fullShare ty22 l22 0 r2) ∷ ‵ (fat fullShare ty23 l23 0 r3) ∷ raw (Packed 𝓤 H A spare3) ∷ raw (Packed 𝓤 H A spare4) ∷ raw (Packed 𝓤 H A dying) ∷ []) (runs C Λ En body.t-26 (atRet En Post))
+      after3 : (u1 : Order) (r1 : Val) (is1 : Is T-Order.the-row u1 (r1 ∷ [])) (d1 : u1 ≡ orderSaid order) (u2 : Stop) (r2 : Val) (is2 : Is T-Stop.the-row u2 (r2 ∷ [])) (d2 : u2 ≡ stopSaid stop) (u3 : Outcome) (r3 : Val) (is3 : Is T-Outcome.the-row u3 (r3 ∷ [])) (c3-permutation : List ℕ) (c3-firsts : List ℕ) (c3-starts : List ℕ) (c3-groups : List ℕ) (c3-tasks : List ℕ) (c3-top : List ℕ) (c3-words : List ℕ) (c3-floats : List Float) (c3-rows : List ℕ) (c3-updates : List Update) (c3-values : List Float) (d3 : Factors (matrix n (input-starts) (input-rows) (input-values)) cap u1 («list») u2 (record { permutation = length (permutation); firsts = length (firsts); starts = length (starts); groups = length (groups); tasks = length (tasks); top = length (top); words = length (words); floats = length (floats); rows = length (rows); updates = length (updates); values = length (values) }) (record { returned = u3; areas = record { permutation = c3-permutation; firsts = c3-firsts; starts = c3-starts; groups = c3-groups; tasks = c3-tasks; top = c3-top; words = c3-words; floats = c3-floats; rows = c3-rows; updates = c3-updates; values = c3-values } })) (same3-permutation : length c3-permutation ≡ length permutation) (same3-firsts : length c3-firsts ≡ length firsts) (same3-starts : length c3-starts ≡ length starts) (same3-groups : length c3-groups ≡ length groups) (same3-tasks : length c3-tasks ≡ length tasks) (same3-top : length c3-top ≡ length top) (same3-words : length c3-words ≡ length words) (same3-floats : length c3-floats ≡ length floats) (same3-rows : length c3-rows ≡ length rows) (same3-updates : length c3-updates ≡ length updates) (same3-values : length c3-values ≡ length values) → Sq W (‵ (ShrSlice (named 0) κ-input-starts usize .own (ref-input-starts γ-input-starts input-starts) (sliceVal (b-input-starts, o-input-starts) (length input-starts) ∷ [])) ∷ ‵ (ShrSlice (named 1) κ-input-rows usize .own (ref-input-rows γ-input-rows input-rows) (sliceVal (b-input-rows, o-input-rows) (length input-rows) ∷ [])) ∷ ‵ (ShrSlice (named 2) κ-input-values f64 .own (ref-input-values γ-input-values input-values) (sliceVal (b-input-values, o-input-values) (length input-values) ∷ [])) ∷ ‵ (ShrSlice (named 3) κ-list usize .own (ref-list γ-list «list») (sliceVal (b-list, o-list) (length «list») ∷ [])) ∷ ‵ (MutSlice (named 4) κ-permutation usize .own (ref-permutation γ-permutation c3-permutation) (sliceVal (b-permutation, o-permutation) (length permutation) ∷ [])) ∷ ‵ (MutSlice (named 5) κ-firsts usize .own (ref-firsts γ-firsts c3-firsts) (sliceVal (b-firsts, o-firsts) (length firsts) ∷ [])) ∷ ‵ (MutSlice (named 6) κ-starts usize .own (ref-starts γ-starts c3-starts) (sliceVal (b-starts, o-starts) (length starts) ∷ [])) ∷ ‵ (MutSlice (named 7) κ-groups usize .own (ref-groups γ-groups c3-groups) (sliceVal (b-groups, o-groups) (length groups) ∷ [])) ∷ ‵ (MutSlice (named 8) κ-tasks usize .own (ref-tasks γ-tasks c3-tasks) (sliceVal (b-tasks, o-tasks) (length tasks) ∷ [])) ∷ ‵ (MutSlice (named 9) κ-top usize .own (ref-top γ-top c3-top) (sliceVal (b-top, o-top) (length top) ∷ [])) ∷ ‵ (MutSlice (named 10) κ-words usize .own (ref-words γ-words c3-words) (sliceVal (b-words, o-words) (length words) ∷ [])) ∷ ‵ (MutSlice (named 11) κ-floats f64 .own (ref-floats γ-floats c3-floats) (sliceVal (b-floats, o-floats) (length floats) ∷ [])) ∷ ‵ (MutSlice (named 12) κ-rows usize .own (ref-rows γ-rows c3-rows) (sliceVal (b-rows, o-rows) (length rows) ∷ [])) ∷ ‵ (MutSlice (named 13) κ-updates T-Update.the-row .own (ref-updates γ-updates c3-updates) (sliceVal (b-updates, o-updates) (length updates) ∷ [])) ∷ ‵ (MutSlice (named 14) κ-values f64 .own (ref-values γ-values c3-values) (sliceVal (b-values, o-values) (length values) ∷ [])) ∷ ‵ (MutRef (named 15) κ-results (Array usize 12) .own (ref-results γ-results results) (s-results ∷ [])) ∷ ‵ (flft κ-input-starts q-input-starts) ∷ ‵ (flft κ-input-rows q-input-rows) ∷ ‵ (flft κ-input-values q-input-values) ∷ ‵ (flft κ-list q-list) ∷ ‵ (flft κ-permutation q-permutation) ∷ ‵ (flft κ-firsts q-firsts) ∷ ‵ (flft κ-starts q-starts) ∷ ‵ (flft κ-groups q-groups) ∷ ‵ (flft κ-tasks q-tasks) ∷ ‵ (flft κ-top q-top) ∷ ‵ (flft κ-words q-words) ∷ ‵ (flft κ-floats q-floats) ∷ ‵ (flft κ-rows q-rows) ∷ ‵ (flft κ-updates q-updates) ∷ ‵ (flft κ-values q-values) ∷ ‵ (flft κ-results q-results) ∷ ‵ (froom ty0 l0 0) ∷ ‵ (fat fullShare ty1 l1 0 (vint w64 n)) ∷ ‵ (fat fullShare ty2 l2 0 s-input-starts) ∷ ‵ (fat fullShare ty3 l3 0 s-input-rows) ∷ ‵ (fat fullShare ty4 l4 0 s-input-values) ∷ ‵ (fat fullShare ty5 l5 0 (vint w64 cap)) ∷ ‵ (fat fullShare ty6 l6 0 (vint w64 order)) ∷ ‵ (fat fullShare ty7 l7 0 s-list) ∷ ‵ (fat fullShare ty8 l8 0 (vint w64 stop)) ∷ ‵ (fat fullShare ty9 l9 0 s-permutation) ∷ ‵ (fat fullShare ty10 l10 0 s-firsts) ∷ ‵ (fat fullShare ty11 l11 0 s-starts) ∷ ‵ (fat fullShare ty12 l12 0 s-groups) ∷ ‵ (fat fullShare ty13 l13 0 s-tasks) ∷ ‵ (fat fullShare ty14 l14 0 s-top) ∷ ‵ (fat fullShare ty15 l15 0 s-words) ∷ ‵ (fat fullShare ty16 l16 0 s-floats) ∷ ‵ (fat fullShare ty17 l17 0 s-rows) ∷ ‵ (fat fullShare ty18 l18 0 s-updates) ∷ ‵ (fat fullShare ty19 l19 0 s-values) ∷ ‵ (fat fullShare ty20 l20 0 s-results) ∷ ‵ (fat fullShare ty21 l21 0 r1) ∷ ‵ (fat fullShare ty22 l22 0 r2) ∷ ‵ (fat fullShare ty23 l23 0 r3) ∷ raw (Packed 𝓤 H A spare3) ∷ raw (Packed 𝓤 H A spare4) ∷ raw (Packed 𝓤 H A dying) ∷ []) (runs C Λ En body.t-26 (atRet En Post))
       after3 u1 r1 is1 d1 u2 r2 is2 d2 u3 r3 is3 c3-permutation c3-firsts c3-starts c3-groups c3-tasks c3-top c3-words c3-floats c3-rows c3-updates c3-values d3 same3-permutation same3-firsts same3-starts same3-groups same3-tasks same3-top same3-words same3-floats same3-rows same3-updates same3-values =
           w-move ! (57 ∷ []) $ w-unpack ! (‵ (froom ty46 l46 0) ∷ []) $
           w-move ! (1 ∷ 2 ∷ 3 ∷ 4 ∷ 5 ∷ 6 ∷ 7 ∷ 9 ∷ 10 ∷ 11 ∷ 12 ∷ 13 ∷ 14 ∷ 15 ∷ 17 ∷ 18 ∷ 19 ∷ 20 ∷ 21 ∷ 22 ∷ 23 ∷ 25 ∷ 26 ∷ 27 ∷ 28 ∷ 29 ∷ 30 ∷ 31 ∷ 34 ∷ 35 ∷ 36 ∷ 37 ∷ 38 ∷ 39 ∷ 40 ∷ 41 ∷ 42 ∷ 43 ∷ 44 ∷ 46 ∷ 47 ∷ 48 ∷ 49 ∷ 50 ∷ 51 ∷ 52 ∷ 54 ∷ 55 ∷ 57 ∷ 58 ∷ []) $ w-pack ! (‵ (ShrSlice (named 0) κ-input-starts usize .own (ref-input-starts γ-input-starts input-starts) (sliceVal (b-input-starts, o-input-starts) (length input-starts) ∷ [])) ∷ ‵ (ShrSlice (named 1) κ-input-rows usize .own (ref-input-rows γ-input-rows input-rows) (sliceVal (b-input-rows, o-input-rows) (length input-rows) ∷ [])) ∷ ‵ (ShrSlice (named 2) κ-input-values f64 .own (ref-input-values γ-input-values input-values) (sliceVal (b-input-values, o-input-values) (length input-values) ∷ [])) ∷ ‵ (ShrSlice (named 3) κ-list usize .own (ref-list γ-list «list») (sliceVal (b-list, o-list) (length «list») ∷ [])) ∷ ‵ (MutSlice (named 4) κ-permutation usize .own (ref-permutation γ-permutation c3-permutation) (sliceVal (b-permutation, o-permutation) (length permutation) ∷ [])) ∷ ‵ (MutSlice (named 5) κ-firsts usize .own (ref-firsts γ-firsts c3-firsts) (sliceVal (b-firsts, o-firsts) (length firsts) ∷ [])) ∷ ‵ (MutSlice (named 6) κ-starts usize .own (ref-starts γ-starts c3-starts) (sliceVal (b-starts, o-starts) (length starts) ∷ [])) ∷ ‵ (MutSlice (named 8) κ-tasks usize .own (ref-tasks γ-tasks c3-tasks) (sliceVal (b-tasks, o-tasks) (length tasks) ∷ [])) ∷ ‵ (MutSlice (named 9) κ-top usize .own (ref-top γ-top c3-top) (sliceVal (b-top, o-top) (length top) ∷ [])) ∷ ‵ (MutSlice (named 10) κ-words usize .own (ref-words γ-words c3-words) (sliceVal (b-words, o-words) (length words) ∷ [])) ∷ ‵ (MutSlice (named 11) κ-floats f64 .own (ref-floats γ-floats c3-floats) (sliceVal (b-floats, o-floats) (length floats) ∷ [])) ∷ ‵ (MutSlice (named 12) κ-rows usize .own (ref-rows γ-rows c3-rows) (sliceVal (b-rows, o-rows) (length rows) ∷ [])) ∷ ‵ (MutSlice (named 13) κ-updates T-Update.the-row .own (ref-updates γ-updates c3-updates) (sliceVal (b-updates, o-updates) (length updates) ∷ [])) ∷ ‵ (MutSlice (named 14) κ-values f64 .own (ref-values γ-values c3-values) (sliceVal (b-values, o-values) (length values) ∷ [])) ∷ ‵ (flft κ-input-starts q-input-starts) ∷ ‵ (flft κ-input-rows q-input-rows) ∷ ‵ (flft κ-input-values q-input-values) ∷ ‵ (flft κ-list q-list) ∷ ‵ (flft κ-permutation q-permutation) ∷ ‵ (flft κ-firsts q-firsts) ∷ ‵ (flft κ-starts q-starts) ∷ ‵ (flft κ-tasks q-tasks) ∷ ‵ (flft κ-top q-top) ∷ ‵ (flft κ-words q-words) ∷ ‵ (flft κ-floats q-floats) ∷ ‵ (flft κ-rows q-rows) ∷ ‵ (flft κ-updates q-updates) ∷ ‵ (flft κ-values q-values) ∷ ‵ (fat fullShare ty1 l1 0 (vint w64 n)) ∷ ‵ (fat fullShare ty2 l2 0 s-input-starts) ∷ ‵ (fat fullShare ty3 l3 0 s-input-rows) ∷ ‵ (fat fullShare ty4 l4 0 s-input-values) ∷ ‵ (fat fullShare ty5 l5 0 (vint w64 cap)) ∷ ‵ (fat fullShare ty6 l6 0 (vint w64 order)) ∷ ‵ (fat fullShare ty7 l7 0 s-list) ∷ ‵ (fat fullShare ty8 l8 0 (vint w64 stop)) ∷ ‵ (fat fullShare ty9 l9 0 s-permutation) ∷ ‵ (fat fullShare ty10 l10 0 s-firsts) ∷ ‵ (fat fullShare ty11 l11 0 s-starts) ∷ ‵ (fat fullShare ty13 l13 0 s-tasks) ∷ ‵ (fat fullShare ty14 l14 0 s-top) ∷ ‵ (fat fullShare ty15 l15 0 s-words) ∷ ‵ (fat fullShare ty16 l16 0 s-floats) ∷ ‵ (fat fullShare ty17 l17 0 s-rows) ∷ ‵ (fat fullShare ty18 l18 0 s-updates) ∷ ‵ (fat fullShare ty19 l19 0 s-values) ∷ ‵ (fat fullShare ty21 l21 0 r1) ∷ ‵ (fat fullShare ty22 l22 0 r2) ∷ raw (Packed 𝓤 H A spare3) ∷ raw (Packed 𝓤 H A dying) ∷ []) $
@@ -466,7 +465,7 @@ module _ {M : Type 1} (𝓤 : URA M) (H : Heap 𝓤) (A : Atoms 𝓤) (W : Given
           use2 W (raw (C-factor 𝓤 H A mem run .pre (((κ-input-starts, (κ-input-rows, (κ-input-values, (κ-list, (ν3-8 ∷ [], (ν3-9 ∷ [], (ν3-10 ∷ [], (ν3-11 ∷ [], (ν3-12 ∷ [], (ν3-13 ∷ [], (ν3-14 ∷ [], (ν3-15 ∷ [], (ν3-16 ∷ [], (ν3-17 ∷ [], (ν3-18 ∷ [], tt))))))))))))))), (q-input-starts, (q-input-rows, (q-input-values, (q-list, (fullShare, (fullShare, (fullShare, (fullShare, (fullShare, (fullShare, (fullShare, (fullShare, (fullShare, (fullShare, (fullShare, tt))))))))))))))), tt, (n, (ref-input-starts γ-input-starts input-starts, (ref-input-rows γ-input-rows input-rows, (ref-input-values γ-input-values input-values, (cap, (u1, (ref-list γ-list «list», (u2, (ref-permutation δ3-8 permutation, (ref-firsts δ3-9 firsts, (ref-starts δ3-10 starts, (ref-groups δ3-11 groups, (ref-tasks δ3-12 tasks, (ref-top δ3-13 top, (ref-words δ3-14 words, (ref-floats δ3-15 floats, (ref-rows δ3-16 rows, (ref-updates δ3-17 updates, (ref-values δ3-18 values, tt))))))))))))))))))), (vint w64 n ∷ [], (s-input-starts ∷ [], (s-input-rows ∷ [], (s-input-values ∷ [], (vint w64 cap ∷ [], (r1 ∷ [], (s-list ∷ [], (r2 ∷ [], (s-permutation ∷ [], (s-firsts ∷ [], (s-starts ∷ [], (s-groups ∷ [], (s-tasks ∷ [], (s-top ∷ [], (s-words ∷ [], (s-floats ∷ [], (s-rows ∷ [], (s-updates ∷ [], (s-values ∷ [], tt)))))))))))))))))))), tt))) (asked3 u1 r1 is1 d1 u2 r2 is2 d2 ν3-8 δ3-8 ν3-9 δ3-9 ν3-10 δ3-10 ν3-11 δ3-11 ν3-12 δ3-12 ν3-13 δ3-13 ν3-14 δ3-14 ν3-15 δ3-15 ν3-16 δ3-16 ν3-17 δ3-17 ν3-18 δ3-18) $
           w-calls-at ! fm (C-factor 𝓤 H A mem run) known-factor (((κ-input-starts, (κ-input-rows, (κ-input-values, (κ-list, (ν3-8 ∷ [], (ν3-9 ∷ [], (ν3-10 ∷ [], (ν3-11 ∷ [], (ν3-12 ∷ [], (ν3-13 ∷ [], (ν3-14 ∷ [], (ν3-15 ∷ [], (ν3-16 ∷ [], (ν3-17 ∷ [], (ν3-18 ∷ [], tt))))))))))))))), (q-input-starts, (q-input-rows, (q-input-values, (q-list, (fullShare, (fullShare, (fullShare, (fullShare, (fullShare, (fullShare, (fullShare, (fullShare, (fullShare, (fullShare, (fullShare, tt))))))))))))))), tt, (n, (ref-input-starts γ-input-starts input-starts, (ref-input-rows γ-input-rows input-rows, (ref-input-values γ-input-values input-values, (cap, (u1, (ref-list γ-list «list», (u2, (ref-permutation δ3-8 permutation, (ref-firsts δ3-9 firsts, (ref-starts δ3-10 starts, (ref-groups δ3-11 groups, (ref-tasks δ3-12 tasks, (ref-top δ3-13 top, (ref-words δ3-14 words, (ref-floats δ3-15 floats, (ref-rows δ3-16 rows, (ref-updates δ3-17 updates, (ref-values δ3-18 values, tt))))))))))))))))))), (vint w64 n ∷ [], (s-input-starts ∷ [], (s-input-rows ∷ [], (s-input-values ∷ [], (vint w64 cap ∷ [], (r1 ∷ [], (s-list ∷ [], (r2 ∷ [], (s-permutation ∷ [], (s-firsts ∷ [], (s-starts ∷ [], (s-groups ∷ [], (s-tasks ∷ [], (s-top ∷ [], (s-words ∷ [], (s-floats ∷ [], (s-rows ∷ [], (s-updates ∷ [], (s-values ∷ [], tt)))))))))))))))))))), tt) (w-and-then ! (w-load ! (w-from ! (w-stop !)) (w-look ! 40 refl)) (w-and-then ! (w-load ! (w-from ! (w-stop !)) (w-look ! 41 refl)) (w-and-then ! (w-load ! (w-from ! (w-stop !)) (w-look ! 42 refl)) (w-and-then ! (w-load ! (w-from ! (w-stop !)) (w-look ! 43 refl)) (w-and-then ! (w-load ! (w-from ! (w-stop !)) (w-look ! 44 refl)) (w-and-then ! (w-load ! (w-from ! (w-stop !)) (w-look ! 57 refl)) (w-and-then ! (w-load ! (w-from ! (w-stop !)) (w-look ! 45 refl)) (w-and-then ! (w-load ! (w-from ! (w-stop !)) (w-look ! 58 refl)) (w-and-then ! (w-load ! (w-from ! (w-stop !)) (w-look ! 18 refl)) (w-and-then ! (w-load ! (w-from ! (w-stop !)) (w-look ! 20 refl)) (w-and-then ! (w-load ! (w-from ! (w-stop !)) (w-look ! 22 refl)) (w-and-then ! (w-load ! (w-from ! (w-stop !)) (w-look ! 24 refl)) (w-and-then ! (w-load ! (w-from ! (w-stop !)) (w-look ! 26 refl)) (w-and-then ! (w-load ! (w-from ! (w-stop !)) (w-look ! 28 refl)) (w-and-then ! (w-load ! (w-from ! (w-stop !)) (w-look ! 30 refl)) (w-and-then ! (w-load ! (w-from ! (w-stop !)) (w-look ! 32 refl)) (w-and-then ! (w-load ! (w-from ! (w-stop !)) (w-look ! 34 refl)) (w-and-then ! (w-load ! (w-from ! (w-stop !)) (w-look ! 36 refl)) (w-and-then ! (w-load ! (w-from ! (w-stop !)) (w-look ! 38 refl)) (w-no-more !)))))))))))))))))))) (λ r3.
           use1 W (later (some (λ (u′ : Outcome). ((‵ (flft (κ-input-starts) q-input-starts) ⊛ ‵ (flft (κ-input-rows) q-input-rows) ⊛ ‵ (flft (κ-input-values) q-input-values) ⊛ ‵ (flft (κ-list) q-list) ⊛ ‵ (flft (ν3-8 ∷ []) fullShare) ⊛ ‵ (flft (ν3-9 ∷ []) fullShare) ⊛ ‵ (flft (ν3-10 ∷ []) fullShare) ⊛ ‵ (flft (ν3-11 ∷ []) fullShare) ⊛ ‵ (flft (ν3-12 ∷ []) fullShare) ⊛ ‵ (flft (ν3-13 ∷ []) fullShare) ⊛ ‵ (flft (ν3-14 ∷ []) fullShare) ⊛ ‵ (flft (ν3-15 ∷ []) fullShare) ⊛ ‵ (flft (ν3-16 ∷ []) fullShare) ⊛ ‵ (flft (ν3-17 ∷ []) fullShare) ⊛ ‵ (flft (ν3-18 ∷ []) fullShare) ⊛ ‵ ftrue) ⊛ ‵ (T-Outcome.the-row .own u′ (r3 ∷ []))) ⊛ raw (ensured 𝓤 H A f-factor.ended (f-factor.clauses 𝓤 H A mem run) (κ-input-starts, (κ-input-rows, (κ-input-values, (κ-list, (ν3-8 ∷ [], (ν3-9 ∷ [], (ν3-10 ∷ [], (ν3-11 ∷ [], (ν3-12 ∷ [], (ν3-13 ∷ [], (ν3-14 ∷ [], (ν3-15 ∷ [], (ν3-16 ∷ [], (ν3-17 ∷ [], (ν3-18 ∷ [], tt))))))))))))))) (n, (ref-input-starts γ-input-starts input-starts, (ref-input-rows γ-input-rows input-rows, (ref-input-values γ-input-values input-values, (cap, (u1, (ref-list γ-list «list», (u2, (ref-permutation δ3-8 permutation, (ref-firsts δ3-9 firsts, (ref-starts δ3-10 starts, (ref-groups δ3-11 groups, (ref-tasks δ3-12 tasks, (ref-top δ3-13 top, (ref-words δ3-14 words, (ref-floats δ3-15 floats, (ref-rows δ3-16 rows, (ref-updates δ3-17 updates, (ref-values δ3-18 values, tt))))))))))))))))))) tt u′)))) (id⊢ 𝓤 _) $ w-await ! tt $ w-pick ! (λ u3.
-          w-split ! $ w-move ! (1 ∷ []) $ use1 W (some (λ (zs3 : Unit {0} × (Unit {0} × (Unit {0} × (Unit {0} × (Unit {0} × (Unit {0} × (Unit {0} × (Unit {0} × (List ℕ × (List ℕ × (List ℕ × (List ℕ × (List ℕ × (List ℕ × (List ℕ × (List Float × (List ℕ × (List Update × (List Float × Unit {0}))))))))))))))))))). ‵ (lasts f-factor.ended (κ-input-starts, (κ-input-rows, (κ-input-values, (κ-list, (ν3-8 ∷ [], (ν3-9 ∷ [], (ν3-10 ∷ [], (ν3-11 ∷ [], (ν3-12 ∷ [], (ν3-13 ∷ [], (ν3-14 ∷ [], (ν3-15 ∷ [], (ν3-16 ∷ [], (ν3-17 ∷ [], (ν3-18 ∷ [], tt))))))))))))))) (n, (ref-input-starts γ-input-starts input-starts, (ref-input-rows γ-input-rows input-rows, (ref-input-values γ-input-values input-values, (cap, (u1, (ref-list γ-list «list», (u2, (ref-permutation δ3-8 permutation, (ref-firsts δ3-9 firsts, (ref-starts δ3-10 starts, (ref-groups δ3-11 groups, (ref-tasks δ3-12 tasks, (ref-top δ3-13 top, (ref-words δ3-14 words, (ref-floats δ3-15 floats, (ref-rows δ3-16 rows, (ref-updates δ3-17 updates, (ref-values δ3-18 values, tt))))))))))))))))))) zs3) ⊛ raw (fact 𝓤 (FactorSettles (factor (matrix n (input-starts) (input-rows) (input-values)) cap u1 («list») u2 (lentAll (length (permutation)) (length (firsts)) (length (starts)) (length (groups)) (length (tasks)) (length (top)) (length (words)) (length (floats)) (length (rows)) (length (updates)) (length (values)))) u3 ((zs3 .1 .1 .1 .1 .1 .1 .1 .1 .0)) ((zs3 .1 .1 .1 .1 .1 .1 .1 .1 .1 .0)) ((zs3 .1 .1 .1 .1 .1 .1 .1 .1 .1 .1 .0)) ((zs3 .1 .1 .1 .1 .1 .1 .1 .1 .1 .1 .1 .0)) ((zs3 .1 .1 .1 .1 .1 .1 .1 .1 .1 .1 .1 .1 .0)) ((zs3 .1 .1 .1 .1 .1 .1 .1 .1 .1 .1 .1 .1 .1 .0)) ((zs3 .1 .1 .1 .1 .1 .1 .1 .1 .1 .1 .1 .1 .1 .1 .0)) ((zs3 .1 .1 .1 .1 .1 .1 .1 .1 .1 .1 .1 .1 .1 .1 .1 .0)) ((zs3 .1 .1 .1 .1 .1 .1 .1 .1 .1 .1 .1 .1 .1 .1 .1 .1 .0)) ((zs3 .1 .1 .1 .1 .1 .1 .1 .1 .1 .1 .1 .1 .1 .1 .1 .1 .1 .0)) ((zs3 .1 .1 .1 .1 .1 .1 .1 .1 .1 .1 .1 .1 .1 .1 .1 .1 .1 .1 .0)))))) (id⊢ 𝓤 _) $ w-pick ! (λ zs3. w-split ! $ w-move ! (1 ∷ []) $ w-heard ! (FactorSettles (factor (matrix n (input-starts) (input-rows) (input-values)) cap u1 («list») u2 (lentAll (length (permutation)) (length (firsts)) (length (starts)) (length (groups)) (length (tasks)) (length (top)) (length (words)) (length (floats)) (length (rows)) (length (updates)) (length (values)))) u3 ((zs3 .1 .1 .1 .1 .1 .1 .1 .1 .0)) ((zs3 .1 .1 .1 .1 .1 .1 .1 .1 .1 .0)) ((zs3 .1 .1 .1 .1 .1 .1 .1 .1 .1 .1 .0)) ((zs3 .1 .1 .1 .1 .1 .1 .1 .1 .1 .1 .1 .0)) ((zs3 .1 .1 .1 .1 .1 .1 .1 .1 .1 .1 .1 .1 .0)) ((zs3 .1 .1 .1 .1 .1 .1 .1 .1 .1 .1 .1 .1 .1 .0)) ((zs3 .1 .1 .1 .1 .1 .1 .1 .1 .1 .1 .1 .1 .1 .1 .0)) ((zs3 .1 .1 .1 .1 .1 .1 .1 .1 .1 .1 .1 .1 .1 .1 .1 .0)) ((zs3 .1 .1 .1 .1 .1 .1 .1 .1 .1 .1 .1 .1 .1 .1 .1 .1 .0)) ((zs3 .1 .1 .1 .1 .1 .1 .1 .1 .1 .1 .1 .1 .1 .1 .1 .1 .1 .0)) ((zs3 .1 .1 .1 .1 .1 .1 .1 .1 .1 .1 .1 .1 .1 .1 .1 .1 .1 .1 .0))) (λ d3.
+          w-split ! $ w-move ! (1 ∷ []) $ use1 W (some (λ (zs3 : Unit {0} × (Unit {0} × (Unit {0} × (Unit {0} × (Unit {0} × (Unit {0} × (Unit {0} × (Unit {0} × (List ℕ × (List ℕ × (List ℕ × (List ℕ × (List ℕ × (List ℕ × (List ℕ × (List Float × (List ℕ × (List Update × (List Float × Unit {0}))))))))))))))))))). ‵ (lasts f-factor.ended (κ-input-starts, (κ-input-rows, (κ-input-values, (κ-list, (ν3-8 ∷ [], (ν3-9 ∷ [], (ν3-10 ∷ [], (ν3-11 ∷ [], (ν3-12 ∷ [], (ν3-13 ∷ [], (ν3-14 ∷ [], (ν3-15 ∷ [], (ν3-16 ∷ [], (ν3-17 ∷ [], (ν3-18 ∷ [], tt))))))))))))))) (n, (ref-input-starts γ-input-starts input-starts, (ref-input-rows γ-input-rows input-rows, (ref-input-values γ-input-values input-values, (cap, (u1, (ref-list γ-list «list», (u2, (ref-permutation δ3-8 permutation, (ref-firsts δ3-9 firsts, (ref-starts δ3-10 starts, (ref-groups δ3-11 groups, (ref-tasks δ3-12 tasks, (ref-top δ3-13 top, (ref-words δ3-14 words, (ref-floats δ3-15 floats, (ref-rows δ3-16 rows, (ref-updates δ3-17 updates, (ref-values δ3-18 values, tt))))))))))))))))))) zs3) ⊛ raw (fact 𝓤 (Factors (matrix n (input-starts) (input-rows) (input-values)) cap u1 («list») u2 (record { permutation = length (permutation); firsts = length (firsts); starts = length (starts); groups = length (groups); tasks = length (tasks); top = length (top); words = length (words); floats = length (floats); rows = length (rows); updates = length (updates); values = length (values) }) (record { returned = u3; areas = record { permutation = (zs3 .1 .1 .1 .1 .1 .1 .1 .1 .0); firsts = (zs3 .1 .1 .1 .1 .1 .1 .1 .1 .1 .0); starts = (zs3 .1 .1 .1 .1 .1 .1 .1 .1 .1 .1 .0); groups = (zs3 .1 .1 .1 .1 .1 .1 .1 .1 .1 .1 .1 .0); tasks = (zs3 .1 .1 .1 .1 .1 .1 .1 .1 .1 .1 .1 .1 .0); top = (zs3 .1 .1 .1 .1 .1 .1 .1 .1 .1 .1 .1 .1 .1 .0); words = (zs3 .1 .1 .1 .1 .1 .1 .1 .1 .1 .1 .1 .1 .1 .1 .0); floats = (zs3 .1 .1 .1 .1 .1 .1 .1 .1 .1 .1 .1 .1 .1 .1 .1 .0); rows = (zs3 .1 .1 .1 .1 .1 .1 .1 .1 .1 .1 .1 .1 .1 .1 .1 .1 .0); updates = (zs3 .1 .1 .1 .1 .1 .1 .1 .1 .1 .1 .1 .1 .1 .1 .1 .1 .1 .0); values = (zs3 .1 .1 .1 .1 .1 .1 .1 .1 .1 .1 .1 .1 .1 .1 .1 .1 .1 .1 .0) } }))))) (id⊢ 𝓤 _) $ w-pick ! (λ zs3. w-split ! $ w-move ! (1 ∷ []) $ w-heard ! (Factors (matrix n (input-starts) (input-rows) (input-values)) cap u1 («list») u2 (record { permutation = length (permutation); firsts = length (firsts); starts = length (starts); groups = length (groups); tasks = length (tasks); top = length (top); words = length (words); floats = length (floats); rows = length (rows); updates = length (updates); values = length (values) }) (record { returned = u3; areas = record { permutation = (zs3 .1 .1 .1 .1 .1 .1 .1 .1 .0); firsts = (zs3 .1 .1 .1 .1 .1 .1 .1 .1 .1 .0); starts = (zs3 .1 .1 .1 .1 .1 .1 .1 .1 .1 .1 .0); groups = (zs3 .1 .1 .1 .1 .1 .1 .1 .1 .1 .1 .1 .0); tasks = (zs3 .1 .1 .1 .1 .1 .1 .1 .1 .1 .1 .1 .1 .0); top = (zs3 .1 .1 .1 .1 .1 .1 .1 .1 .1 .1 .1 .1 .1 .0); words = (zs3 .1 .1 .1 .1 .1 .1 .1 .1 .1 .1 .1 .1 .1 .1 .0); floats = (zs3 .1 .1 .1 .1 .1 .1 .1 .1 .1 .1 .1 .1 .1 .1 .1 .0); rows = (zs3 .1 .1 .1 .1 .1 .1 .1 .1 .1 .1 .1 .1 .1 .1 .1 .1 .0); updates = (zs3 .1 .1 .1 .1 .1 .1 .1 .1 .1 .1 .1 .1 .1 .1 .1 .1 .1 .0); values = (zs3 .1 .1 .1 .1 .1 .1 .1 .1 .1 .1 .1 .1 .1 .1 .1 .1 .1 .1 .0) } })) (λ d3.
           w-past ! $ w-past ! $ w-past ! $ w-past ! $ w-past ! $ w-past ! $ w-past ! $ w-past ! $ w-last ! (λ same3-permutation. w-move ! (1 ∷ []) $ w-last ! (λ same3-firsts. w-move ! (1 ∷ []) $ w-last ! (λ same3-starts. w-move ! (1 ∷ []) $ w-last ! (λ same3-groups. w-move ! (1 ∷ []) $ w-last ! (λ same3-tasks. w-move ! (1 ∷ []) $ w-last ! (λ same3-top. w-move ! (1 ∷ []) $ w-last ! (λ same3-words. w-move ! (1 ∷ []) $ w-last ! (λ same3-floats. w-move ! (1 ∷ []) $ w-last ! (λ same3-rows. w-move ! (1 ∷ []) $ w-last ! (λ same3-updates. w-move ! (1 ∷ []) $ w-last ! (λ same3-values. w-move ! (1 ∷ []) $ w-drop ! $
           w-move ! (11 ∷ []) $ w-split ! $ w-move ! (1 ∷ []) $ w-peeks ! T-Outcome.the-row (Is T-Outcome.the-row) (shows 𝓤 H A T-Outcome.the-row) u3 (r3 ∷ []) (λ is3. w-land ! (w-from ! (w-stop !)) (w-init ! 71 refl (LL.lawful T-Outcome.the-type L-Outcome.the-laws 𝓤 H A W .typed u3 _ is3 .0)) $
           w-drop ! $ w-split ! $ w-move ! (1 ∷ []) $ w-split ! $ w-move ! (1 ∷ []) $ w-split ! $ w-move ! (1 ∷ []) $ w-split ! $ w-move ! (1 ∷ 26 ∷ 15 ∷ []) $ w-back ! tt usize κ-permutation q-permutation γ-permutation b-permutation o-permutation (named 4) (named 4) permutation (length permutation) refl ν3-8 δ3-8 (zs3 .1 .1 .1 .1 .1 .1 .1 .1 .0) room-permutation same3-permutation $

@@ -1,9 +1,8 @@
 -- `factor::factor` meets its contract: a walk of its MIR that tools/walk.py wrote, cut after each call. Assumes nothing.
 use Prim.Native.Nat.{_<_, _^_, ℕ}
 use Rattle.begin.specs.Begun.{Begun, lentAll}
-use Rattle.factor.specs.Filled.{FactorSettles, lentAll}
 use Rattle.finish.specs.Filled.{FactorSettles}
-use Rattle.statement.specs.Calls.{factor}
+use Rattle.statement.specs.Calls.{Factors, factor}
 use Rattle.statement.specs.Input.{matrix}
 use base.Fml.{GName, Lft, Share, fat, fdies, flft, froom, ftrue}
 use base.Logic.{SProp, emp, ent, fst∗, id⊢, via}
@@ -75,7 +74,7 @@ use Rattle.factor.proofs.factor.Statement as stated
 use Rattle.factor.proofs.factor.Code as code
 use Rattle.factor.proofs.factor.Code.Mir as body
 use Rattle.finish.proofs.Settling.{lent-same}
-use Rattle.factor.proofs.Rooms.{begun-at, settles-at}
+use Rattle.factor.proofs.Rooms.{begun-at, factors}
 
 abbrev stayed : Stays (here.ended .signature .params) (here.ended .kept)
 stayed = (stay-none (λ _. usize) yes, (stay-none-slice (0 ∷ []) tt (plain (λ _. usize)) yes, (stay-none-slice (1 ∷ []) tt (plain (λ _. usize)) yes, (stay-none-slice (2 ∷ []) tt (plain (λ _. f64)) yes, (stay-none (λ _. usize) yes, (stay-none (λ _. T-Order.the-row) yes, (stay-none-slice (3 ∷ []) tt (plain (λ _. usize)) yes, (stay-none (λ _. T-Stop.the-row) yes, (stay-slice (4 ∷ []) tt (plain (λ _. usize)), (stay-slice (5 ∷ []) tt (plain (λ _. usize)), (stay-slice (6 ∷ []) tt (plain (λ _. usize)), (stay-slice (7 ∷ []) tt (plain (λ _. usize)), (stay-slice (8 ∷ []) tt (plain (λ _. usize)), (stay-slice (9 ∷ []) tt (plain (λ _. usize)), (stay-slice (10 ∷ []) tt (plain (λ _. usize)), (stay-slice (11 ∷ []) tt (plain (λ _. f64)), (stay-slice (12 ∷ []) tt (plain (λ _. usize)), (stay-slice (13 ∷ []) tt (plain (λ _. T-Update.the-row)), (stay-slice (14 ∷ []) tt (plain (λ _. f64)), tt)))))))))))))))))))
@@ -389,7 +388,7 @@ module _ {M : Type 1} (𝓤 : URA M) (H : Heap 𝓤) (A : Atoms 𝓤) (W : Given
 
   exits : (u1 : Findings) (r1 : Val) (is1 : Is T-Findings.the-row u1 (r1 ∷ [])) (c1-permutation : List ℕ) (c1-firsts : List ℕ) (c1-starts : List ℕ) (c1-groups : List ℕ) (c1-tasks : List ℕ) (c1-top : List ℕ) (c1-words : List ℕ) (c1-floats : List Float) (c1-rows : List ℕ) (c1-values : List Float) (d1 : Begun (matrix n (input-starts) (input-rows) (input-values)) cap order («list») stop (lentAll (length (permutation)) (length (firsts)) (length (starts)) (length (groups)) (length (tasks)) (length (top)) (length (words)) (length (floats)) (length (rows)) (length updates) (length (values))) u1 (c1-permutation) (c1-firsts) (c1-starts) (c1-groups) (c1-tasks) (c1-words) (c1-floats) (c1-rows) (c1-values)) (same1-permutation : length c1-permutation ≡ length permutation) (same1-firsts : length c1-firsts ≡ length firsts) (same1-starts : length c1-starts ≡ length starts) (same1-groups : length c1-groups ≡ length groups) (same1-tasks : length c1-tasks ≡ length tasks) (same1-top : length c1-top ≡ length top) (same1-words : length c1-words ≡ length words) (same1-floats : length c1-floats ≡ length floats) (same1-rows : length c1-rows ≡ length rows) (same1-values : length c1-values ≡ length values) (u2 : Outcome) (r2 : Val) (is2 : Is T-Outcome.the-row u2 (r2 ∷ [])) (c2-permutation : List ℕ) (c2-firsts : List ℕ) (c2-starts : List ℕ) (c2-groups : List ℕ) (c2-tasks : List ℕ) (c2-top : List ℕ) (c2-words : List ℕ) (c2-floats : List Float) (c2-rows : List ℕ) (c2-updates : List Update) (c2-values : List Float) (d2 : FactorSettles (factor (matrix n (input-starts) (input-rows) (input-values)) cap order («list») stop (lentAll (length (c1-permutation)) (length (c1-firsts)) (length (c1-starts)) (length (c1-groups)) (length (c1-tasks)) (length (c1-top)) (length (c1-words)) (length (c1-floats)) (length (c1-rows)) (length (updates)) (length (c1-values)))) u2 (c2-permutation) (c2-firsts) (c2-starts) (c2-groups) (c2-tasks) (c2-top) (c2-words) (c2-floats) (c2-rows) (c2-updates) (c2-values)) (same2-permutation : length c2-permutation ≡ length c1-permutation) (same2-firsts : length c2-firsts ≡ length c1-firsts) (same2-starts : length c2-starts ≡ length c1-starts) (same2-groups : length c2-groups ≡ length c1-groups) (same2-tasks : length c2-tasks ≡ length c1-tasks) (same2-top : length c2-top ≡ length c1-top) (same2-words : length c2-words ≡ length c1-words) (same2-floats : length c2-floats ≡ length c1-floats) (same2-rows : length c2-rows ≡ length c1-rows) (same2-updates : length c2-updates ≡ length updates) (same2-values : length c2-values ≡ length c1-values) → ent 𝓤 (⋆ 𝓤 H A (‵ (flft κ-input-starts q-input-starts) ∷ ‵ (flft κ-input-rows q-input-rows) ∷ ‵ (flft κ-input-values q-input-values) ∷ ‵ (flft κ-list q-list) ∷ ‵ (flft κ-permutation q-permutation) ∷ ‵ (flft κ-firsts q-firsts) ∷ ‵ (flft κ-starts q-starts) ∷ ‵ (flft κ-groups q-groups) ∷ ‵ (flft κ-tasks q-tasks) ∷ ‵ (flft κ-top q-top) ∷ ‵ (flft κ-words q-words) ∷ ‵ (flft κ-floats q-floats) ∷ ‵ (flft κ-rows q-rows) ∷ ‵ (flft κ-updates q-updates) ∷ ‵ (flft κ-values q-values) ∷ ‵ (ShrSlice (named 0) κ-input-starts usize .own (ref-input-starts γ-input-starts input-starts) (sliceVal (b-input-starts, o-input-starts) (length input-starts) ∷ [])) ∷ ‵ (ShrSlice (named 1) κ-input-rows usize .own (ref-input-rows γ-input-rows input-rows) (sliceVal (b-input-rows, o-input-rows) (length input-rows) ∷ [])) ∷ ‵ (ShrSlice (named 2) κ-input-values f64 .own (ref-input-values γ-input-values input-values) (sliceVal (b-input-values, o-input-values) (length input-values) ∷ [])) ∷ ‵ (ShrSlice (named 3) κ-list usize .own (ref-list γ-list «list») (sliceVal (b-list, o-list) (length «list») ∷ [])) ∷ ‵ (MutSlice (named 4) κ-permutation usize .own (ref-permutation γ-permutation c2-permutation) (sliceVal (b-permutation, o-permutation) (length permutation) ∷ [])) ∷ ‵ (MutSlice (named 5) κ-firsts usize .own (ref-firsts γ-firsts c2-firsts) (sliceVal (b-firsts, o-firsts) (length firsts) ∷ [])) ∷ ‵ (MutSlice (named 6) κ-starts usize .own (ref-starts γ-starts c2-starts) (sliceVal (b-starts, o-starts) (length starts) ∷ [])) ∷ ‵ (MutSlice (named 7) κ-groups usize .own (ref-groups γ-groups c2-groups) (sliceVal (b-groups, o-groups) (length groups) ∷ [])) ∷ ‵ (MutSlice (named 8) κ-tasks usize .own (ref-tasks γ-tasks c2-tasks) (sliceVal (b-tasks, o-tasks) (length tasks) ∷ [])) ∷ ‵ (MutSlice (named 9) κ-top usize .own (ref-top γ-top c2-top) (sliceVal (b-top, o-top) (length top) ∷ [])) ∷ ‵ (MutSlice (named 10) κ-words usize .own (ref-words γ-words c2-words) (sliceVal (b-words, o-words) (length words) ∷ [])) ∷ ‵ (MutSlice (named 11) κ-floats f64 .own (ref-floats γ-floats c2-floats) (sliceVal (b-floats, o-floats) (length floats) ∷ [])) ∷ ‵ (MutSlice (named 12) κ-rows usize .own (ref-rows γ-rows c2-rows) (sliceVal (b-rows, o-rows) (length rows) ∷ [])) ∷ ‵ (MutSlice (named 13) κ-updates T-Update.the-row .own (ref-updates γ-updates c2-updates) (sliceVal (b-updates, o-updates) (length updates) ∷ [])) ∷ ‵ (MutSlice (named 14) κ-values f64 .own (ref-values γ-values c2-values) (sliceVal (b-values, o-values) (length values) ∷ [])) ∷ [])) (Post r2)
   exits u1 r1 is1 c1-permutation c1-firsts c1-starts c1-groups c1-tasks c1-top c1-words c1-floats c1-rows c1-values d1 same1-permutation same1-firsts same1-starts same1-groups same1-tasks same1-top same1-words same1-floats same1-rows same1-values u2 r2 is2 c2-permutation c2-firsts c2-starts c2-groups c2-tasks c2-top c2-words c2-floats c2-rows c2-updates c2-values d2 same2-permutation same2-firsts same2-starts same2-groups same2-tasks same2-top same2-words same2-floats same2-rows same2-updates same2-values =
-      let told : FactorSettles (factor (matrix n (input-starts) (input-rows) (input-values)) cap order («list») stop (lentAll (length (permutation)) (length (firsts)) (length (starts)) (length (groups)) (length (tasks)) (length (top)) (length (words)) (length (floats)) (length (rows)) (length (updates)) (length (values)))) u2 (c2-permutation) (c2-firsts) (c2-starts) (c2-groups) (c2-tasks) (c2-top) (c2-words) (c2-floats) (c2-rows) (c2-updates) (c2-values) = settles-at (matrix n input-starts input-rows input-values) cap order «list» stop (lent-same same1-permutation same1-firsts same1-starts same1-groups same1-tasks same1-top same1-words same1-floats same1-rows refl same1-values) d2 in qed W (‵ (flft κ-input-starts q-input-starts) ∷ ‵ (flft κ-input-rows q-input-rows) ∷ ‵ (flft κ-input-values q-input-values) ∷ ‵ (flft κ-list q-list) ∷ ‵ (flft κ-permutation q-permutation) ∷ ‵ (flft κ-firsts q-firsts) ∷ ‵ (flft κ-starts q-starts) ∷ ‵ (flft κ-groups q-groups) ∷ ‵ (flft κ-tasks q-tasks) ∷ ‵ (flft κ-top q-top) ∷ ‵ (flft κ-words q-words) ∷ ‵ (flft κ-floats q-floats) ∷ ‵ (flft κ-rows q-rows) ∷ ‵ (flft κ-updates q-updates) ∷ ‵ (flft κ-values q-values) ∷ ‵ (ShrSlice (named 0) κ-input-starts usize .own (ref-input-starts γ-input-starts input-starts) (sliceVal (b-input-starts, o-input-starts) (length input-starts) ∷ [])) ∷ ‵ (ShrSlice (named 1) κ-input-rows usize .own (ref-input-rows γ-input-rows input-rows) (sliceVal (b-input-rows, o-input-rows) (length input-rows) ∷ [])) ∷ ‵ (ShrSlice (named 2) κ-input-values f64 .own (ref-input-values γ-input-values input-values) (sliceVal (b-input-values, o-input-values) (length input-values) ∷ [])) ∷ ‵ (ShrSlice (named 3) κ-list usize .own (ref-list γ-list «list») (sliceVal (b-list, o-list) (length «list») ∷ [])) ∷ ‵ (MutSlice (named 4) κ-permutation usize .own (ref-permutation γ-permutation c2-permutation) (sliceVal (b-permutation, o-permutation) (length permutation) ∷ [])) ∷ ‵ (MutSlice (named 5) κ-firsts usize .own (ref-firsts γ-firsts c2-firsts) (sliceVal (b-firsts, o-firsts) (length firsts) ∷ [])) ∷ ‵ (MutSlice (named 6) κ-starts usize .own (ref-starts γ-starts c2-starts) (sliceVal (b-starts, o-starts) (length starts) ∷ [])) ∷ ‵ (MutSlice (named 7) κ-groups usize .own (ref-groups γ-groups c2-groups) (sliceVal (b-groups, o-groups) (length groups) ∷ [])) ∷ ‵ (MutSlice (named 8) κ-tasks usize .own (ref-tasks γ-tasks c2-tasks) (sliceVal (b-tasks, o-tasks) (length tasks) ∷ [])) ∷ ‵ (MutSlice (named 9) κ-top usize .own (ref-top γ-top c2-top) (sliceVal (b-top, o-top) (length top) ∷ [])) ∷ ‵ (MutSlice (named 10) κ-words usize .own (ref-words γ-words c2-words) (sliceVal (b-words, o-words) (length words) ∷ [])) ∷ ‵ (MutSlice (named 11) κ-floats f64 .own (ref-floats γ-floats c2-floats) (sliceVal (b-floats, o-floats) (length floats) ∷ [])) ∷ ‵ (MutSlice (named 12) κ-rows usize .own (ref-rows γ-rows c2-rows) (sliceVal (b-rows, o-rows) (length rows) ∷ [])) ∷ ‵ (MutSlice (named 13) κ-updates T-Update.the-row .own (ref-updates γ-updates c2-updates) (sliceVal (b-updates, o-updates) (length updates) ∷ [])) ∷ ‵ (MutSlice (named 14) κ-values f64 .own (ref-values γ-values c2-values) (sliceVal (b-values, o-values) (length values) ∷ [])) ∷ []) ∵
+      let told : Factors (matrix n (input-starts) (input-rows) (input-values)) cap order («list») stop (record { permutation = length (permutation); firsts = length (firsts); starts = length (starts); groups = length (groups); tasks = length (tasks); top = length (top); words = length (words); floats = length (floats); rows = length (rows); updates = length (updates); values = length (values) }) (record { returned = u2; areas = record { permutation = c2-permutation; firsts = c2-firsts; starts = c2-starts; groups = c2-groups; tasks = c2-tasks; top = c2-top; words = c2-words; floats = c2-floats; rows = c2-rows; updates = c2-updates; values = c2-values } }) = factors (matrix n input-starts input-rows input-values) cap order «list» stop (lent-same same1-permutation same1-firsts same1-starts same1-groups same1-tasks same1-top same1-words same1-floats same1-rows refl same1-values) d2 in qed W (‵ (flft κ-input-starts q-input-starts) ∷ ‵ (flft κ-input-rows q-input-rows) ∷ ‵ (flft κ-input-values q-input-values) ∷ ‵ (flft κ-list q-list) ∷ ‵ (flft κ-permutation q-permutation) ∷ ‵ (flft κ-firsts q-firsts) ∷ ‵ (flft κ-starts q-starts) ∷ ‵ (flft κ-groups q-groups) ∷ ‵ (flft κ-tasks q-tasks) ∷ ‵ (flft κ-top q-top) ∷ ‵ (flft κ-words q-words) ∷ ‵ (flft κ-floats q-floats) ∷ ‵ (flft κ-rows q-rows) ∷ ‵ (flft κ-updates q-updates) ∷ ‵ (flft κ-values q-values) ∷ ‵ (ShrSlice (named 0) κ-input-starts usize .own (ref-input-starts γ-input-starts input-starts) (sliceVal (b-input-starts, o-input-starts) (length input-starts) ∷ [])) ∷ ‵ (ShrSlice (named 1) κ-input-rows usize .own (ref-input-rows γ-input-rows input-rows) (sliceVal (b-input-rows, o-input-rows) (length input-rows) ∷ [])) ∷ ‵ (ShrSlice (named 2) κ-input-values f64 .own (ref-input-values γ-input-values input-values) (sliceVal (b-input-values, o-input-values) (length input-values) ∷ [])) ∷ ‵ (ShrSlice (named 3) κ-list usize .own (ref-list γ-list «list») (sliceVal (b-list, o-list) (length «list») ∷ [])) ∷ ‵ (MutSlice (named 4) κ-permutation usize .own (ref-permutation γ-permutation c2-permutation) (sliceVal (b-permutation, o-permutation) (length permutation) ∷ [])) ∷ ‵ (MutSlice (named 5) κ-firsts usize .own (ref-firsts γ-firsts c2-firsts) (sliceVal (b-firsts, o-firsts) (length firsts) ∷ [])) ∷ ‵ (MutSlice (named 6) κ-starts usize .own (ref-starts γ-starts c2-starts) (sliceVal (b-starts, o-starts) (length starts) ∷ [])) ∷ ‵ (MutSlice (named 7) κ-groups usize .own (ref-groups γ-groups c2-groups) (sliceVal (b-groups, o-groups) (length groups) ∷ [])) ∷ ‵ (MutSlice (named 8) κ-tasks usize .own (ref-tasks γ-tasks c2-tasks) (sliceVal (b-tasks, o-tasks) (length tasks) ∷ [])) ∷ ‵ (MutSlice (named 9) κ-top usize .own (ref-top γ-top c2-top) (sliceVal (b-top, o-top) (length top) ∷ [])) ∷ ‵ (MutSlice (named 10) κ-words usize .own (ref-words γ-words c2-words) (sliceVal (b-words, o-words) (length words) ∷ [])) ∷ ‵ (MutSlice (named 11) κ-floats f64 .own (ref-floats γ-floats c2-floats) (sliceVal (b-floats, o-floats) (length floats) ∷ [])) ∷ ‵ (MutSlice (named 12) κ-rows usize .own (ref-rows γ-rows c2-rows) (sliceVal (b-rows, o-rows) (length rows) ∷ [])) ∷ ‵ (MutSlice (named 13) κ-updates T-Update.the-row .own (ref-updates γ-updates c2-updates) (sliceVal (b-updates, o-updates) (length updates) ∷ [])) ∷ ‵ (MutSlice (named 14) κ-values f64 .own (ref-values γ-values c2-values) (sliceVal (b-values, o-values) (length values) ∷ [])) ∷ []) ∵
       w-suffices ! _ (ends-at 𝓤 H A here.ended stayed (here.clauses 𝓤 H A mem run) W bound r2 u2 (tt, (tt, (tt, (tt, (tt, (tt, (tt, (tt, (c2-permutation, (c2-firsts, (c2-starts, (c2-groups, (c2-tasks, (c2-top, (c2-words, (c2-floats, (c2-rows, (c2-updates, (c2-values, tt))))))))))))))))))) (tt, (tt, (tt, (tt, (tt, (tt, (tt, (tt, (same2-permutation ∙ same1-permutation, (same2-firsts ∙ same1-firsts, (same2-starts ∙ same1-starts, (same2-groups ∙ same1-groups, (same2-tasks ∙ same1-tasks, (same2-top ∙ same1-top, (same2-words ∙ same1-words, (same2-floats ∙ same1-floats, (same2-rows ∙ same1-rows, (same2-updates, (same2-values ∙ same1-values, tt)))))))))))))))))))) $ w-says ! told $
       w-nothing ! $ w-move ! (15 ∷ 0 ∷ []) $ w-join ! $ w-move ! (14 ∷ 0 ∷ []) $ w-join ! $ w-move ! (13 ∷ 0 ∷ []) $ w-join ! $ w-move ! (12 ∷ 0 ∷ []) $ w-join ! $ w-move ! (11 ∷ 0 ∷ []) $ w-join ! $ w-move ! (10 ∷ 0 ∷ []) $ w-join ! $ w-move ! (9 ∷ 0 ∷ []) $ w-join ! $ w-move ! (8 ∷ 0 ∷ []) $ w-join ! $ w-move ! (7 ∷ 0 ∷ []) $ w-join ! $ w-move ! (6 ∷ 0 ∷ []) $ w-join ! $ w-move ! (5 ∷ 0 ∷ []) $ w-join ! $ w-move ! (4 ∷ 0 ∷ []) $ w-join ! $ w-move ! (3 ∷ 0 ∷ []) $ w-join ! $ w-move ! (2 ∷ 0 ∷ []) $ w-join ! $ w-move ! (1 ∷ 0 ∷ []) $ w-join ! $ w-frame ! $
       w-nothing ! $ w-move ! (15 ∷ 0 ∷ []) $ w-fjoin ! $ w-move ! (14 ∷ 0 ∷ []) $ w-fjoin ! $ w-move ! (13 ∷ 0 ∷ []) $ w-fjoin ! $ w-move ! (12 ∷ 0 ∷ []) $ w-fjoin ! $ w-move ! (11 ∷ 0 ∷ []) $ w-fjoin ! $ w-move ! (10 ∷ 0 ∷ []) $ w-fjoin ! $ w-move ! (9 ∷ 0 ∷ []) $ w-fjoin ! $ w-move ! (8 ∷ 0 ∷ []) $ w-fjoin ! $ w-move ! (7 ∷ 0 ∷ []) $ w-fjoin ! $ w-move ! (6 ∷ 0 ∷ []) $ w-fjoin ! $ w-move ! (5 ∷ 0 ∷ []) $ w-fjoin ! $ w-owned ! T-Stop.the-row (Is T-Stop.the-row) (EL.makes T-Stop.the-type L-Stop.the-plain 𝓤 H A) stop _ is-stop $ w-fjoin ! $ w-move ! (4 ∷ 0 ∷ []) $ w-fjoin ! $ w-owned ! T-Order.the-row (Is T-Order.the-row) (EL.makes T-Order.the-type L-Order.the-plain 𝓤 H A) order _ is-order $ w-fjoin ! $ w-owned ! usize (Is usize) (uint-makes 𝓤 H A W w64) cap _ (refl, fits-cap) $ w-fjoin ! $ w-move ! (3 ∷ 0 ∷ []) $ w-fjoin ! $ w-move ! (2 ∷ 0 ∷ []) $ w-fjoin ! $ w-move ! (1 ∷ 0 ∷ []) $ w-fjoin ! $ w-owned ! usize (Is usize) (uint-makes 𝓤 H A W w64) n _ (refl, fits-n) $ w-fjoin ! $ w-frame ! $

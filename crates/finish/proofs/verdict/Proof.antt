@@ -1,9 +1,7 @@
--- `finish::verdict` meets its contract, by the answer and the least failing column. Assumes nothing.
-use Rattle.finish.specs.Filled.{before, pivot, sound}
+-- `finish::verdict` meets its contract, by the answer before. Assumes nothing.
+use Rattle.finish.specs.Filled.{before, after}
 use Rattle.room.proofs.Short.{accepted-first}
-use Rattle.statement.specs.declared.Answer.the-variants.{WrongPivot}
-use native.Mathlib.Omega.{arith}
-use mathlib.Core.Path.{refl, ap}
+use mathlib.Core.Path.{refl}
 use borrow.Author.Needs.{needs}
 use Rattle.finish.proofs.verdict.Statement.{statement}
 use Rattle.finish.proofs.verdict.Tie as tie
@@ -16,25 +14,11 @@ returns c =
     let match′ = c .match in
     before (λ q. accepted-first (rw q at (match′ .keys2))) refl
 
-original-requires : tie.Need-original-requires
-original-requires c κs =
-    let pre′ = c .before .before .before .before .pre in
-    let enum-told′ = c .before .enum-told in
-    let if1′ = c .if1 in
-    omega (arith, pre′ (enum-told′ .given .1), if1′ .taken)
+pivot-answer-requires : tie.Need-pivot-answer-requires
+pivot-answer-requires c κs = c .before .before .before .pre (c .enum-told .given .1)
 
 returns-2 : tie.Need-returns-2
-returns-2 c =
-    let enum-told′ = c .before .before .enum-told in
-    let if1′ = c .before .if1 in
-    let original′ = c .original in
-    pivot (enum-told′ .given .1) (if1′ .taken) (ap WrongPivot (original′ .ensures))
-
-returns-3 : tie.Need-returns-3
-returns-3 c =
-    let enum-told′ = c .before .enum-told in
-    let if1′ = c .if1 in
-    sound (enum-told′ .given .1) (if1′ .left) refl
+returns-2 c = after (c .before .enum-told .given .1) (c .pivot-answer .ensures)
 
 pub verdict-spec : {M : Type 1} → statement M
-verdict-spec = tie.close (tie.spec enum-told returns original-requires returns-2 returns-3)
+verdict-spec = tie.close (tie.spec enum-told returns pivot-answer-requires returns-2)

@@ -27,7 +27,7 @@ returns-2 c = λ x e.
     let b = c .before .before .before in
     let n = b .pre in
     let f = c .before .field-at .ensures x 0 e (omega (arith, n)) ∙ field-first (now (b .args .line)) x e 0 2 0 (omega (arith, n)) (omega arith) ∙ div-one x in
-    rw (eq-eqb x 4 (sym f ∙ c .if1 .left)) (cc)
+    rw (eq-eqb x 4 (sym f ∙ c .if1 .left))
 
 pub end-spec : {M : Type 1} → statement M
 end-spec = tie.close (tie.spec field-at-requires returns returns-2)

@@ -40,7 +40,7 @@ returns-2 c = λ x e.
     let f2 = c .before .before .field-at2 .ensures x 20 e (omega (arith, n)) in
     let f3 = c .before .field-at3 .ensures x 16 e (omega (arith, n)) in
     let f4 = c .field-at4 .ensures x 0 e (omega (arith, n)) ∙ ap (λ (t : ℕ). t % 16 ^ 16) (div-one x) in
-    rw (eq-eqb (x / 16 ^ 24) 2 (sym f ∙ c .before .before .before .if1 .left)) (cc)
+    rw (eq-eqb (x / 16 ^ 24) 2 (sym f ∙ c .before .before .before .if1 .left), ← f2, ← f3, ← f4)
 
 pub stored-spec : {M : Type 1} → statement M
 stored-spec = tie.close (tie.spec field-at-requires returns field-at-requires-2 field-at-requires-3 field-at-requires-4 returns-2)

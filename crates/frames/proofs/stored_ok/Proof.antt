@@ -13,7 +13,7 @@ both-requires-3 : tie.Need-both-requires-3
 both-requires-3 c κs = search needs
 
 returns : tie.Need-returns
-returns c = cc
+returns c = rw (c .both3 .ensures, c .before .both2 .ensures, c .before .before .before .before .before .both .ensures)
 
 pub stored-ok-spec : {M : Type 1} → statement M
 stored-ok-spec = tie.close (tie.spec both-requires both-requires-2 both-requires-3 returns)

@@ -46,7 +46,7 @@ returns : tie.Need-returns
 returns c = let b = c .before .before .before .before .before .before .before .before .before in
     let a = b .args in
     let e = sym (c .before .before .before .before .before .before .before .end-ok .ensures) ∙ c .before .before .before .before .before .before .if1 .taken in
-    (record { n = b .pre .0 .n; known = omega arith }, λ ro va ri j h. end-yes (a .p) (now (a .starts)) ro va ri j h _ e (b .pre .0 .n) (b .pre .0 .known) (b .pre .1) (tail-filled (a .p .count) (now (a .starts)) _ (a .p .known + 1) (a .p .n - a .p .known) (c .before .before .fill-part .ensures)))
+    (record { n = b .pre .0 .n; known = omega arith }, λ ro va ri j h. end-yes (a .p) (now (a .starts)) ro va ri j h _ e (b .pre .0 .n) (b .pre .0 .known) (b .pre .1) (tail-filled (a .p .count) (now (a .starts)) _ (a .p .known .0 + 1) (a .p .n - a .p .known .0) (c .before .before .fill-part .ensures)))
 
 returns-2 : tie.Need-returns-2
 returns-2 c = let a = c .before .before .before .before .args in

@@ -4,7 +4,8 @@ use native.Mathlib.Omega.{arith}
 use borrow.Author.Needs.{needs}
 use lib.ListN.{length-take}
 use lib.Seq.{length-take-le}
-use Rattle.jobs.proofs.Working.{gotten, read-fault, reads-job, wrote-as}
+use Rattle.jobs.proofs.Working.{gotten, read-fault, reads-job}
+use Rattle.reply.proofs.Telling.{placed-is, answer-as}
 use Rattle.jobs.proofs.run_job.Statement.{statement}
 use Rattle.jobs.proofs.run_job.Tie as tie
 
@@ -76,14 +77,14 @@ returns c =
     let read-job′ = c .before .before .before .before .before .before .before .before .before .before .before .before .before .before .read-job in
     let r′ = c .before .before .before .before .before .before .before .before .r in
     let work′ = c .before .work in
-    let g = gotten _ _ _ _ _ (read-job′ .ensures) (r′ .given .1) in wrote-as _ (reads-job _ _ (g .reads)) (work′ .ensures (g .frames) (g .matrix-is) (g .cap-is) (g .right-is))
+    let g = gotten _ _ _ _ _ (read-job′ .ensures) (r′ .given .1) in answer-as _ (reads-job _ _ (g .reads)) (work′ .ensures (g .frames) (g .matrix-is) (g .cap-is) (g .right-is))
 
 returns-2 : tie.Need-returns-2
 returns-2 c =
     let read-job′ = c .before .before .before .before .before .before .before .before .before .read-job in
     let r2′ = c .before .before .before .r2 in
     let put-refusal′ = c .put-refusal in
-    wrote-as _ (read-fault _ _ _ (read-job′ .ensures .answer) (r2′ .given .1)) (put-refusal′ .ensures)
+    placed-is _ (read-fault _ _ _ (read-job′ .ensures .answer) (r2′ .given .1)) (put-refusal′ .ensures)
 
 pub run-job-spec : {M : Type 1} → statement M
 run-job-spec =

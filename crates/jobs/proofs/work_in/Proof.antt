@@ -1,12 +1,12 @@
 -- `jobs::work_in` meets its contract: a walk of its MIR that tools/walk.py wrote, cut after each call. Assumes nothing.
 use Prim.Native.Nat.{_<_, _^_, _≤_, ℕ}
-use Rattle.factor.specs.Filled.{FactorSettles, lentAll}
-use Rattle.jobs.specs.Worked.{Made, Wrote}
+use Rattle.factor.specs.Filled.{lentAll}
 use Rattle.laws.specs.Lent.{lent}
+use Rattle.reply.specs.Made.{Made}
 use Rattle.statement.specs.Areas.{noUpdate}
-use Rattle.statement.specs.Calls.{factor}
+use Rattle.statement.specs.Calls.{Factors}
 use Rattle.statement.specs.Input.{matrix}
-use Rattle.statement.specs.Job.{Frames, jobRoom, matrixOf, whole, written}
+use Rattle.statement.specs.Job.{Frames, answerIn, jobRoom, matrixOf, whole, written}
 use Rattle.statement.specs.declared.Order.the-variants.{Plain}
 use Rattle.statement.specs.declared.Stop.the-variants.{End}
 use base.Fml.{GName, Lft, Share, fat, fdies, flft, froom, ftrue}
@@ -80,10 +80,10 @@ use Rattle.factor.proofs.factor as f-factor
 use Rattle.factor.proofs.factor.Symbol as def-factor
 use Rattle.factor.proofs.factor.Symbol.{name as #factor·factor}
 use Rattle.factor.proofs.factor.Met as thm-factor
-use Rattle.jobs.proofs.answer.answer as f-answer
-use Rattle.jobs.proofs.answer.answer.Symbol as def-answer
-use Rattle.jobs.proofs.answer.answer.Symbol.{name as #jobs·answer}
-use Rattle.jobs.proofs.answer.answer.Met as thm-answer
+use Rattle.reply.proofs.answer as f-answer
+use Rattle.reply.proofs.answer.Symbol as def-answer
+use Rattle.reply.proofs.answer.Symbol.{name as #reply·answer}
+use Rattle.reply.proofs.answer.Met as thm-answer
 use Rattle.update.proofs.Steps.{big-lit as w-big-lit}
 use Rattle.update.proofs.Packs.{Packed, pack as w-pack, unpack as w-unpack, written as w-written, homes-freed as w-homes-freed}
 use Rattle.update.proofs.Again.{LentAgain}
@@ -419,15 +419,15 @@ module _ {M : Type 1} (𝓤 : URA M) (H : Heap 𝓤) (A : Atoms 𝓤) (W : Given
   abbrev ty62 : Ty
   ty62 = tyRef erased mut (tyArray (tyInt w8) 2959)
 
-  exits : (u1 : Order) (r1 : Val) (is1 : Is T-Order.the-row u1 (r1 ∷ [])) (d1 : u1 ≡ Plain) (u2 : Stop) (r2 : Val) (is2 : Is T-Stop.the-row u2 (r2 ∷ [])) (d2 : u2 ≡ End) (u3 : Update) (r3 : Val) (is3 : Is T-Update.the-row u3 (r3 ∷ [])) (d3 : u3 ≡ noUpdate) (updates : List Update) (made-updates : updates ≡ replicate 8256 u3) (size-updates : length updates ≡ 8256) (u4 : Outcome) (r4 : Val) (is4 : Is T-Outcome.the-row u4 (r4 ∷ [])) (c4-permutation : List ℕ) (c4-firsts : List ℕ) (c4-starts : List ℕ) (c4-groups : List ℕ) (c4-tasks : List ℕ) (c4-top : List ℕ) (c4-words : List ℕ) (c4-floats : List Float) (c4-rows : List ℕ) (c4-updates : List Update) (c4-values : List Float) (d4 : FactorSettles (factor (matrix n (input-starts) (input-rows) (input-values)) cap u1 («list») u2 (lentAll (length (permutation)) (length (firsts)) (length (starts)) (length (groups)) (length (tasks)) (length (top)) (length (words)) (length (floats)) (length (rows)) (length (updates)) (length (values)))) u4 (c4-permutation) (c4-firsts) (c4-starts) (c4-groups) (c4-tasks) (c4-top) (c4-words) (c4-floats) (c4-rows) (c4-updates) (c4-values)) (same4-permutation : length c4-permutation ≡ length permutation) (same4-firsts : length c4-firsts ≡ length firsts) (same4-starts : length c4-starts ≡ length starts) (same4-groups : length c4-groups ≡ length groups) (same4-tasks : length c4-tasks ≡ length tasks) (same4-top : length c4-top ≡ length top) (same4-words : length c4-words ≡ length words) (same4-floats : length c4-floats ≡ length floats) (same4-rows : length c4-rows ≡ length rows) (same4-updates : length c4-updates ≡ length updates) (same4-values : length c4-values ≡ length values) (u5 : ℕ) (r5 : Val) (is5 : Is usize u5 (r5 ∷ [])) (c5-words : List ℕ) (c5-floats : List Float) (c5-b : List Float) (c5-out : List ℕ) (d5 : ((j : Frames) → Made j u4 (lent (c4-permutation) (c4-firsts) (c4-starts) (c4-rows) (c4-values)) (b) (length (c4-words)) (length (c4-floats)) → Wrote (written (whole j)) u5 (out) (c5-out))) (same5-words : length c5-words ≡ length c4-words) (same5-floats : length c5-floats ≡ length c4-floats) (same5-b : length c5-b ≡ length b) → ent 𝓤 (⋆ 𝓤 H A (‵ (flft κ-input-starts q-input-starts) ∷ ‵ (flft κ-input-rows q-input-rows) ∷ ‵ (flft κ-input-values q-input-values) ∷ ‵ (flft κ-list q-list) ∷ ‵ (flft κ-permutation q-permutation) ∷ ‵ (flft κ-firsts q-firsts) ∷ ‵ (flft κ-starts q-starts) ∷ ‵ (flft κ-groups q-groups) ∷ ‵ (flft κ-tasks q-tasks) ∷ ‵ (flft κ-top q-top) ∷ ‵ (flft κ-words q-words) ∷ ‵ (flft κ-floats q-floats) ∷ ‵ (flft κ-rows q-rows) ∷ ‵ (flft κ-values q-values) ∷ ‵ (flft κ-b q-b) ∷ ‵ (flft κ-out q-out) ∷ ‵ (ShrSlice (named 0) κ-input-starts usize .own (ref-input-starts γ-input-starts input-starts) (sliceVal (b-input-starts, o-input-starts) (length input-starts) ∷ [])) ∷ ‵ (ShrSlice (named 1) κ-input-rows usize .own (ref-input-rows γ-input-rows input-rows) (sliceVal (b-input-rows, o-input-rows) (length input-rows) ∷ [])) ∷ ‵ (ShrSlice (named 2) κ-input-values f64 .own (ref-input-values γ-input-values input-values) (sliceVal (b-input-values, o-input-values) (length input-values) ∷ [])) ∷ ‵ (ShrSlice (named 3) κ-list usize .own (ref-list γ-list «list») (sliceVal (b-list, o-list) (length «list») ∷ [])) ∷ ‵ (MutSlice (named 4) κ-permutation usize .own (ref-permutation γ-permutation c4-permutation) (sliceVal (b-permutation, o-permutation) (length permutation) ∷ [])) ∷ ‵ (MutSlice (named 5) κ-firsts usize .own (ref-firsts γ-firsts c4-firsts) (sliceVal (b-firsts, o-firsts) (length firsts) ∷ [])) ∷ ‵ (MutSlice (named 6) κ-starts usize .own (ref-starts γ-starts c4-starts) (sliceVal (b-starts, o-starts) (length starts) ∷ [])) ∷ ‵ (MutSlice (named 7) κ-groups usize .own (ref-groups γ-groups c4-groups) (sliceVal (b-groups, o-groups) (length groups) ∷ [])) ∷ ‵ (MutSlice (named 8) κ-tasks usize .own (ref-tasks γ-tasks c4-tasks) (sliceVal (b-tasks, o-tasks) (length tasks) ∷ [])) ∷ ‵ (MutSlice (named 9) κ-top usize .own (ref-top γ-top c4-top) (sliceVal (b-top, o-top) (length top) ∷ [])) ∷ ‵ (MutSlice (named 10) κ-words usize .own (ref-words γ-words c5-words) (sliceVal (b-words, o-words) (length words) ∷ [])) ∷ ‵ (MutSlice (named 11) κ-floats f64 .own (ref-floats γ-floats c5-floats) (sliceVal (b-floats, o-floats) (length floats) ∷ [])) ∷ ‵ (MutSlice (named 12) κ-rows usize .own (ref-rows γ-rows c4-rows) (sliceVal (b-rows, o-rows) (length rows) ∷ [])) ∷ ‵ (MutSlice (named 13) κ-values f64 .own (ref-values γ-values c4-values) (sliceVal (b-values, o-values) (length values) ∷ [])) ∷ ‵ (MutSlice (named 14) κ-b f64 .own (ref-b γ-b c5-b) (sliceVal (b-b, o-b) (length b) ∷ [])) ∷ ‵ (MutRef (named 15) κ-out (Array u8 2959) .own (ref-out γ-out c5-out) (s-out ∷ [])) ∷ [])) (Post r5)
+  exits : (u1 : Order) (r1 : Val) (is1 : Is T-Order.the-row u1 (r1 ∷ [])) (d1 : u1 ≡ Plain) (u2 : Stop) (r2 : Val) (is2 : Is T-Stop.the-row u2 (r2 ∷ [])) (d2 : u2 ≡ End) (u3 : Update) (r3 : Val) (is3 : Is T-Update.the-row u3 (r3 ∷ [])) (d3 : u3 ≡ noUpdate) (updates : List Update) (made-updates : updates ≡ replicate 8256 u3) (size-updates : length updates ≡ 8256) (u4 : Outcome) (r4 : Val) (is4 : Is T-Outcome.the-row u4 (r4 ∷ [])) (c4-permutation : List ℕ) (c4-firsts : List ℕ) (c4-starts : List ℕ) (c4-groups : List ℕ) (c4-tasks : List ℕ) (c4-top : List ℕ) (c4-words : List ℕ) (c4-floats : List Float) (c4-rows : List ℕ) (c4-updates : List Update) (c4-values : List Float) (d4 : Factors (matrix n (input-starts) (input-rows) (input-values)) cap u1 («list») u2 (record { permutation = length (permutation); firsts = length (firsts); starts = length (starts); groups = length (groups); tasks = length (tasks); top = length (top); words = length (words); floats = length (floats); rows = length (rows); updates = length (updates); values = length (values) }) (record { returned = u4; areas = record { permutation = c4-permutation; firsts = c4-firsts; starts = c4-starts; groups = c4-groups; tasks = c4-tasks; top = c4-top; words = c4-words; floats = c4-floats; rows = c4-rows; updates = c4-updates; values = c4-values } })) (same4-permutation : length c4-permutation ≡ length permutation) (same4-firsts : length c4-firsts ≡ length firsts) (same4-starts : length c4-starts ≡ length starts) (same4-groups : length c4-groups ≡ length groups) (same4-tasks : length c4-tasks ≡ length tasks) (same4-top : length c4-top ≡ length top) (same4-words : length c4-words ≡ length words) (same4-floats : length c4-floats ≡ length floats) (same4-rows : length c4-rows ≡ length rows) (same4-updates : length c4-updates ≡ length updates) (same4-values : length c4-values ≡ length values) (u5 : ℕ) (r5 : Val) (is5 : Is usize u5 (r5 ∷ [])) (c5-words : List ℕ) (c5-floats : List Float) (c5-b : List Float) (c5-out : List ℕ) (d5 : ((j : Frames) → Made j u4 (lent (c4-permutation) (c4-firsts) (c4-starts) (c4-rows) (c4-values)) (b) (length (c4-words)) (length (c4-floats)) → record { out = c5-out; bytes = u5 } ≡ answerIn (written (whole j)) (out))) (same5-words : length c5-words ≡ length c4-words) (same5-floats : length c5-floats ≡ length c4-floats) (same5-b : length c5-b ≡ length b) → ent 𝓤 (⋆ 𝓤 H A (‵ (flft κ-input-starts q-input-starts) ∷ ‵ (flft κ-input-rows q-input-rows) ∷ ‵ (flft κ-input-values q-input-values) ∷ ‵ (flft κ-list q-list) ∷ ‵ (flft κ-permutation q-permutation) ∷ ‵ (flft κ-firsts q-firsts) ∷ ‵ (flft κ-starts q-starts) ∷ ‵ (flft κ-groups q-groups) ∷ ‵ (flft κ-tasks q-tasks) ∷ ‵ (flft κ-top q-top) ∷ ‵ (flft κ-words q-words) ∷ ‵ (flft κ-floats q-floats) ∷ ‵ (flft κ-rows q-rows) ∷ ‵ (flft κ-values q-values) ∷ ‵ (flft κ-b q-b) ∷ ‵ (flft κ-out q-out) ∷ ‵ (ShrSlice (named 0) κ-input-starts usize .own (ref-input-starts γ-input-starts input-starts) (sliceVal (b-input-starts, o-input-starts) (length input-starts) ∷ [])) ∷ ‵ (ShrSlice (named 1) κ-input-rows usize .own (ref-input-rows γ-input-rows input-rows) (sliceVal (b-input-rows, o-input-rows) (length input-rows) ∷ [])) ∷ ‵ (ShrSlice (named 2) κ-input-values f64 .own (ref-input-values γ-input-values input-values) (sliceVal (b-input-values, o-input-values) (length input-values) ∷ [])) ∷ ‵ (ShrSlice (named 3) κ-list usize .own (ref-list γ-list «list») (sliceVal (b-list, o-list) (length «list») ∷ [])) ∷ ‵ (MutSlice (named 4) κ-permutation usize .own (ref-permutation γ-permutation c4-permutation) (sliceVal (b-permutation, o-permutation) (length permutation) ∷ [])) ∷ ‵ (MutSlice (named 5) κ-firsts usize .own (ref-firsts γ-firsts c4-firsts) (sliceVal (b-firsts, o-firsts) (length firsts) ∷ [])) ∷ ‵ (MutSlice (named 6) κ-starts usize .own (ref-starts γ-starts c4-starts) (sliceVal (b-starts, o-starts) (length starts) ∷ [])) ∷ ‵ (MutSlice (named 7) κ-groups usize .own (ref-groups γ-groups c4-groups) (sliceVal (b-groups, o-groups) (length groups) ∷ [])) ∷ ‵ (MutSlice (named 8) κ-tasks usize .own (ref-tasks γ-tasks c4-tasks) (sliceVal (b-tasks, o-tasks) (length tasks) ∷ [])) ∷ ‵ (MutSlice (named 9) κ-top usize .own (ref-top γ-top c4-top) (sliceVal (b-top, o-top) (length top) ∷ [])) ∷ ‵ (MutSlice (named 10) κ-words usize .own (ref-words γ-words c5-words) (sliceVal (b-words, o-words) (length words) ∷ [])) ∷ ‵ (MutSlice (named 11) κ-floats f64 .own (ref-floats γ-floats c5-floats) (sliceVal (b-floats, o-floats) (length floats) ∷ [])) ∷ ‵ (MutSlice (named 12) κ-rows usize .own (ref-rows γ-rows c4-rows) (sliceVal (b-rows, o-rows) (length rows) ∷ [])) ∷ ‵ (MutSlice (named 13) κ-values f64 .own (ref-values γ-values c4-values) (sliceVal (b-values, o-values) (length values) ∷ [])) ∷ ‵ (MutSlice (named 14) κ-b f64 .own (ref-b γ-b c5-b) (sliceVal (b-b, o-b) (length b) ∷ [])) ∷ ‵ (MutRef (named 15) κ-out (Array u8 2959) .own (ref-out γ-out c5-out) (s-out ∷ [])) ∷ [])) (Post r5)
   exits u1 r1 is1 d1 u2 r2 is2 d2 u3 r3 is3 d3 updates made-updates size-updates u4 r4 is4 c4-permutation c4-firsts c4-starts c4-groups c4-tasks c4-top c4-words c4-floats c4-rows c4-updates c4-values d4 same4-permutation same4-firsts same4-starts same4-groups same4-tasks same4-top same4-words same4-floats same4-rows same4-updates same4-values u5 r5 is5 c5-words c5-floats c5-b c5-out d5 same5-words same5-floats same5-b =
-      let told : ((j : Frames) → matrix n (input-starts) (input-rows) (input-values) ≡ matrixOf j → cap ≡ j .cap → «list» ≡ [] → lentAll (length (permutation)) (length (firsts)) (length (starts)) (length (groups)) (length (tasks)) (length (top)) (length (words)) (length (floats)) (length (rows)) (jobRoom .updates) (length (values)) ≡ jobRoom → b ≡ j .b → Wrote (written (whole j)) u5 (out) (c5-out)) = λ j m c l r d. d5 j (made j m c d1 l d2 (roomed size-updates r) d4 d (same4-words ∙ words-of r) (same4-floats ∙ floats-of r)) in qed W (‵ (flft κ-input-starts q-input-starts) ∷ ‵ (flft κ-input-rows q-input-rows) ∷ ‵ (flft κ-input-values q-input-values) ∷ ‵ (flft κ-list q-list) ∷ ‵ (flft κ-permutation q-permutation) ∷ ‵ (flft κ-firsts q-firsts) ∷ ‵ (flft κ-starts q-starts) ∷ ‵ (flft κ-groups q-groups) ∷ ‵ (flft κ-tasks q-tasks) ∷ ‵ (flft κ-top q-top) ∷ ‵ (flft κ-words q-words) ∷ ‵ (flft κ-floats q-floats) ∷ ‵ (flft κ-rows q-rows) ∷ ‵ (flft κ-values q-values) ∷ ‵ (flft κ-b q-b) ∷ ‵ (flft κ-out q-out) ∷ ‵ (ShrSlice (named 0) κ-input-starts usize .own (ref-input-starts γ-input-starts input-starts) (sliceVal (b-input-starts, o-input-starts) (length input-starts) ∷ [])) ∷ ‵ (ShrSlice (named 1) κ-input-rows usize .own (ref-input-rows γ-input-rows input-rows) (sliceVal (b-input-rows, o-input-rows) (length input-rows) ∷ [])) ∷ ‵ (ShrSlice (named 2) κ-input-values f64 .own (ref-input-values γ-input-values input-values) (sliceVal (b-input-values, o-input-values) (length input-values) ∷ [])) ∷ ‵ (ShrSlice (named 3) κ-list usize .own (ref-list γ-list «list») (sliceVal (b-list, o-list) (length «list») ∷ [])) ∷ ‵ (MutSlice (named 4) κ-permutation usize .own (ref-permutation γ-permutation c4-permutation) (sliceVal (b-permutation, o-permutation) (length permutation) ∷ [])) ∷ ‵ (MutSlice (named 5) κ-firsts usize .own (ref-firsts γ-firsts c4-firsts) (sliceVal (b-firsts, o-firsts) (length firsts) ∷ [])) ∷ ‵ (MutSlice (named 6) κ-starts usize .own (ref-starts γ-starts c4-starts) (sliceVal (b-starts, o-starts) (length starts) ∷ [])) ∷ ‵ (MutSlice (named 7) κ-groups usize .own (ref-groups γ-groups c4-groups) (sliceVal (b-groups, o-groups) (length groups) ∷ [])) ∷ ‵ (MutSlice (named 8) κ-tasks usize .own (ref-tasks γ-tasks c4-tasks) (sliceVal (b-tasks, o-tasks) (length tasks) ∷ [])) ∷ ‵ (MutSlice (named 9) κ-top usize .own (ref-top γ-top c4-top) (sliceVal (b-top, o-top) (length top) ∷ [])) ∷ ‵ (MutSlice (named 10) κ-words usize .own (ref-words γ-words c5-words) (sliceVal (b-words, o-words) (length words) ∷ [])) ∷ ‵ (MutSlice (named 11) κ-floats f64 .own (ref-floats γ-floats c5-floats) (sliceVal (b-floats, o-floats) (length floats) ∷ [])) ∷ ‵ (MutSlice (named 12) κ-rows usize .own (ref-rows γ-rows c4-rows) (sliceVal (b-rows, o-rows) (length rows) ∷ [])) ∷ ‵ (MutSlice (named 13) κ-values f64 .own (ref-values γ-values c4-values) (sliceVal (b-values, o-values) (length values) ∷ [])) ∷ ‵ (MutSlice (named 14) κ-b f64 .own (ref-b γ-b c5-b) (sliceVal (b-b, o-b) (length b) ∷ [])) ∷ ‵ (MutRef (named 15) κ-out (Array u8 2959) .own (ref-out γ-out c5-out) (s-out ∷ [])) ∷ []) ∵
+      let told : ((j : Frames) → matrix n (input-starts) (input-rows) (input-values) ≡ matrixOf j → cap ≡ j .cap → «list» ≡ [] → lentAll (length (permutation)) (length (firsts)) (length (starts)) (length (groups)) (length (tasks)) (length (top)) (length (words)) (length (floats)) (length (rows)) (jobRoom .updates) (length (values)) ≡ jobRoom → b ≡ j .b → record { out = c5-out; bytes = u5 } ≡ answerIn (written (whole j)) (out)) = λ j m c l r d. d5 j (made j m c d1 l d2 (roomed size-updates r) d4 d (same4-words ∙ words-of r) (same4-floats ∙ floats-of r)) in qed W (‵ (flft κ-input-starts q-input-starts) ∷ ‵ (flft κ-input-rows q-input-rows) ∷ ‵ (flft κ-input-values q-input-values) ∷ ‵ (flft κ-list q-list) ∷ ‵ (flft κ-permutation q-permutation) ∷ ‵ (flft κ-firsts q-firsts) ∷ ‵ (flft κ-starts q-starts) ∷ ‵ (flft κ-groups q-groups) ∷ ‵ (flft κ-tasks q-tasks) ∷ ‵ (flft κ-top q-top) ∷ ‵ (flft κ-words q-words) ∷ ‵ (flft κ-floats q-floats) ∷ ‵ (flft κ-rows q-rows) ∷ ‵ (flft κ-values q-values) ∷ ‵ (flft κ-b q-b) ∷ ‵ (flft κ-out q-out) ∷ ‵ (ShrSlice (named 0) κ-input-starts usize .own (ref-input-starts γ-input-starts input-starts) (sliceVal (b-input-starts, o-input-starts) (length input-starts) ∷ [])) ∷ ‵ (ShrSlice (named 1) κ-input-rows usize .own (ref-input-rows γ-input-rows input-rows) (sliceVal (b-input-rows, o-input-rows) (length input-rows) ∷ [])) ∷ ‵ (ShrSlice (named 2) κ-input-values f64 .own (ref-input-values γ-input-values input-values) (sliceVal (b-input-values, o-input-values) (length input-values) ∷ [])) ∷ ‵ (ShrSlice (named 3) κ-list usize .own (ref-list γ-list «list») (sliceVal (b-list, o-list) (length «list») ∷ [])) ∷ ‵ (MutSlice (named 4) κ-permutation usize .own (ref-permutation γ-permutation c4-permutation) (sliceVal (b-permutation, o-permutation) (length permutation) ∷ [])) ∷ ‵ (MutSlice (named 5) κ-firsts usize .own (ref-firsts γ-firsts c4-firsts) (sliceVal (b-firsts, o-firsts) (length firsts) ∷ [])) ∷ ‵ (MutSlice (named 6) κ-starts usize .own (ref-starts γ-starts c4-starts) (sliceVal (b-starts, o-starts) (length starts) ∷ [])) ∷ ‵ (MutSlice (named 7) κ-groups usize .own (ref-groups γ-groups c4-groups) (sliceVal (b-groups, o-groups) (length groups) ∷ [])) ∷ ‵ (MutSlice (named 8) κ-tasks usize .own (ref-tasks γ-tasks c4-tasks) (sliceVal (b-tasks, o-tasks) (length tasks) ∷ [])) ∷ ‵ (MutSlice (named 9) κ-top usize .own (ref-top γ-top c4-top) (sliceVal (b-top, o-top) (length top) ∷ [])) ∷ ‵ (MutSlice (named 10) κ-words usize .own (ref-words γ-words c5-words) (sliceVal (b-words, o-words) (length words) ∷ [])) ∷ ‵ (MutSlice (named 11) κ-floats f64 .own (ref-floats γ-floats c5-floats) (sliceVal (b-floats, o-floats) (length floats) ∷ [])) ∷ ‵ (MutSlice (named 12) κ-rows usize .own (ref-rows γ-rows c4-rows) (sliceVal (b-rows, o-rows) (length rows) ∷ [])) ∷ ‵ (MutSlice (named 13) κ-values f64 .own (ref-values γ-values c4-values) (sliceVal (b-values, o-values) (length values) ∷ [])) ∷ ‵ (MutSlice (named 14) κ-b f64 .own (ref-b γ-b c5-b) (sliceVal (b-b, o-b) (length b) ∷ [])) ∷ ‵ (MutRef (named 15) κ-out (Array u8 2959) .own (ref-out γ-out c5-out) (s-out ∷ [])) ∷ []) ∵
       w-suffices ! _ (ends-at 𝓤 H A here.ended stayed (here.clauses 𝓤 H A mem run) W bound r5 u5 (tt, (tt, (tt, (tt, (tt, (tt, (c4-permutation, (c4-firsts, (c4-starts, (c4-groups, (c4-tasks, (c4-top, (c5-words, (c5-floats, (c4-rows, (c4-values, (c5-b, (c5-out, tt)))))))))))))))))) (tt, (tt, (tt, (tt, (tt, (tt, (same4-permutation, (same4-firsts, (same4-starts, (same4-groups, (same4-tasks, (same4-top, (same5-words ∙ same4-words, (same5-floats ∙ same4-floats, (same4-rows, (same4-values, (same5-b, (tt, tt))))))))))))))))))) $ w-says ! told $
       w-nothing ! $ w-move ! (16 ∷ 0 ∷ []) $ w-join ! $ w-move ! (15 ∷ 0 ∷ []) $ w-join ! $ w-move ! (14 ∷ 0 ∷ []) $ w-join ! $ w-move ! (13 ∷ 0 ∷ []) $ w-join ! $ w-move ! (12 ∷ 0 ∷ []) $ w-join ! $ w-move ! (11 ∷ 0 ∷ []) $ w-join ! $ w-move ! (10 ∷ 0 ∷ []) $ w-join ! $ w-move ! (9 ∷ 0 ∷ []) $ w-join ! $ w-move ! (8 ∷ 0 ∷ []) $ w-join ! $ w-move ! (7 ∷ 0 ∷ []) $ w-join ! $ w-move ! (6 ∷ 0 ∷ []) $ w-join ! $ w-move ! (5 ∷ 0 ∷ []) $ w-join ! $ w-move ! (4 ∷ 0 ∷ []) $ w-join ! $ w-move ! (3 ∷ 0 ∷ []) $ w-join ! $ w-move ! (2 ∷ 0 ∷ []) $ w-join ! $ w-move ! (1 ∷ 0 ∷ []) $ w-join ! $ w-frame ! $
       w-nothing ! $ w-move ! (16 ∷ 0 ∷ []) $ w-fjoin ! $ w-move ! (15 ∷ 0 ∷ []) $ w-fjoin ! $ w-move ! (14 ∷ 0 ∷ []) $ w-fjoin ! $ w-move ! (13 ∷ 0 ∷ []) $ w-fjoin ! $ w-move ! (12 ∷ 0 ∷ []) $ w-fjoin ! $ w-move ! (11 ∷ 0 ∷ []) $ w-fjoin ! $ w-move ! (10 ∷ 0 ∷ []) $ w-fjoin ! $ w-move ! (9 ∷ 0 ∷ []) $ w-fjoin ! $ w-move ! (8 ∷ 0 ∷ []) $ w-fjoin ! $ w-move ! (7 ∷ 0 ∷ []) $ w-fjoin ! $ w-move ! (6 ∷ 0 ∷ []) $ w-fjoin ! $ w-move ! (5 ∷ 0 ∷ []) $ w-fjoin ! $ w-move ! (4 ∷ 0 ∷ []) $ w-fjoin ! $ w-owned ! usize (Is usize) (uint-makes 𝓤 H A W w64) cap _ (refl, fits-cap) $ w-fjoin ! $ w-move ! (3 ∷ 0 ∷ []) $ w-fjoin ! $ w-move ! (2 ∷ 0 ∷ []) $ w-fjoin ! $ w-move ! (1 ∷ 0 ∷ []) $ w-fjoin ! $ w-owned ! usize (Is usize) (uint-makes 𝓤 H A W w64) n _ (refl, fits-n) $ w-fjoin ! $ w-frame ! $
       w-owned ! usize (Is usize) (uint-makes 𝓤 H A W w64) u5 _ is5 $ done !
 
-  module _ (𝓣 : Tables 𝓤 H) (known-plain-order : Triple 𝓤 (𝓣 .C #jobs·plain-order) (C-plain-order 𝓤 H A mem run)) (known-no-stop : Triple 𝓤 (𝓣 .C #jobs·no-stop) (C-no-stop 𝓤 H A mem run)) (known-none : Triple 𝓤 (𝓣 .C #update·none) (C-none 𝓤 H A mem run)) (known-factor : Triple 𝓤 (𝓣 .C #factor·factor) (C-factor 𝓤 H A mem run)) (known-answer : Triple 𝓤 (𝓣 .C #jobs·answer) (C-answer 𝓤 H A mem run)) where
+  module _ (𝓣 : Tables 𝓤 H) (known-plain-order : Triple 𝓤 (𝓣 .C #jobs·plain-order) (C-plain-order 𝓤 H A mem run)) (known-no-stop : Triple 𝓤 (𝓣 .C #jobs·no-stop) (C-no-stop 𝓤 H A mem run)) (known-none : Triple 𝓤 (𝓣 .C #update·none) (C-none 𝓤 H A mem run)) (known-factor : Triple 𝓤 (𝓣 .C #factor·factor) (C-factor 𝓤 H A mem run)) (known-answer : Triple 𝓤 (𝓣 .C #reply·answer) (C-answer 𝓤 H A mem run)) where
     abbrev C : Calls 𝓤 H
     C = 𝓣 .C
 
@@ -453,7 +453,7 @@ module _ {M : Type 1} (𝓤 : URA M) (H : Heap 𝓤) (A : Atoms 𝓤) (W : Given
     asked4 u1 r1 is1 d1 u2 r2 is2 d2 u3 r3 is3 d3 updates made-updates size-updates l22 ν4-8 δ4-8 ν4-9 δ4-9 ν4-10 δ4-10 ν4-11 δ4-11 ν4-12 δ4-12 ν4-13 δ4-13 ν4-14 δ4-14 ν4-15 δ4-15 ν4-16 δ4-16 ν4-17 δ4-17 ν4-18 δ4-18 =
         qed W ((‵ (flft (κ-input-starts) q-input-starts) ⊛ ‵ (flft (κ-input-rows) q-input-rows) ⊛ ‵ (flft (κ-input-values) q-input-values) ⊛ ‵ (flft (κ-list) q-list) ⊛ ‵ (flft (ν4-8 ∷ []) fullShare) ⊛ ‵ (flft (ν4-9 ∷ []) fullShare) ⊛ ‵ (flft (ν4-10 ∷ []) fullShare) ⊛ ‵ (flft (ν4-11 ∷ []) fullShare) ⊛ ‵ (flft (ν4-12 ∷ []) fullShare) ⊛ ‵ (flft (ν4-13 ∷ []) fullShare) ⊛ ‵ (flft (ν4-14 ∷ []) fullShare) ⊛ ‵ (flft (ν4-15 ∷ []) fullShare) ⊛ ‵ (flft (ν4-16 ∷ []) fullShare) ⊛ ‵ (flft (ν4-17 ∷ []) fullShare) ⊛ ‵ (flft (ν4-18 ∷ []) fullShare) ⊛ ‵ ftrue) ∷ ‵ (owns (usize ∷ ShrSlice (named 0) (κ-input-starts) usize ∷ ShrSlice (named 1) (κ-input-rows) usize ∷ ShrSlice (named 2) (κ-input-values) f64 ∷ usize ∷ T-Order.the-row ∷ ShrSlice (named 3) (κ-list) usize ∷ T-Stop.the-row ∷ MutSlice (named 4) (ν4-8 ∷ []) usize ∷ MutSlice (named 5) (ν4-9 ∷ []) usize ∷ MutSlice (named 6) (ν4-10 ∷ []) usize ∷ MutSlice (named 7) (ν4-11 ∷ []) usize ∷ MutSlice (named 8) (ν4-12 ∷ []) usize ∷ MutSlice (named 9) (ν4-13 ∷ []) usize ∷ MutSlice (named 10) (ν4-14 ∷ []) usize ∷ MutSlice (named 11) (ν4-15 ∷ []) f64 ∷ MutSlice (named 12) (ν4-16 ∷ []) usize ∷ MutSlice (named 13) (ν4-17 ∷ []) T-Update.the-row ∷ MutSlice (named 14) (ν4-18 ∷ []) f64 ∷ []) (n, (ref-input-starts γ-input-starts input-starts, (ref-input-rows γ-input-rows input-rows, (ref-input-values γ-input-values input-values, (cap, (u1, (ref-list γ-list «list», (u2, (ref-permutation δ4-8 permutation, (ref-firsts δ4-9 firsts, (ref-starts δ4-10 starts, (ref-groups δ4-11 groups, (ref-tasks δ4-12 tasks, (ref-top δ4-13 top, (ref-words δ4-14 words, (ref-floats δ4-15 floats, (ref-rows δ4-16 rows, (ref-updates l22 δ4-17 updates, (ref-values δ4-18 values, tt))))))))))))))))))) (vint w64 n ∷ [], (s-input-starts ∷ [], (s-input-rows ∷ [], (s-input-values ∷ [], (vint w64 cap ∷ [], (r1 ∷ [], (s-list ∷ [], (r2 ∷ [], (s-permutation ∷ [], (s-firsts ∷ [], (s-starts ∷ [], (s-groups ∷ [], (s-tasks ∷ [], (s-top ∷ [], (s-words ∷ [], (s-floats ∷ [], (s-rows ∷ [], (sliceVal (l22, 0) (length updates) ∷ [], (s-values ∷ [], tt)))))))))))))))))))) ∷ []) ∵ w-join ! $ w-frame ! $ done !
 
-    asked5 : (u1 : Order) (r1 : Val) (is1 : Is T-Order.the-row u1 (r1 ∷ [])) (d1 : u1 ≡ Plain) (u2 : Stop) (r2 : Val) (is2 : Is T-Stop.the-row u2 (r2 ∷ [])) (d2 : u2 ≡ End) (u3 : Update) (r3 : Val) (is3 : Is T-Update.the-row u3 (r3 ∷ [])) (d3 : u3 ≡ noUpdate) (updates : List Update) (made-updates : updates ≡ replicate 8256 u3) (size-updates : length updates ≡ 8256) (u4 : Outcome) (r4 : Val) (is4 : Is T-Outcome.the-row u4 (r4 ∷ [])) (c4-permutation : List ℕ) (c4-firsts : List ℕ) (c4-starts : List ℕ) (c4-groups : List ℕ) (c4-tasks : List ℕ) (c4-top : List ℕ) (c4-words : List ℕ) (c4-floats : List Float) (c4-rows : List ℕ) (c4-updates : List Update) (c4-values : List Float) (d4 : FactorSettles (factor (matrix n (input-starts) (input-rows) (input-values)) cap u1 («list») u2 (lentAll (length (permutation)) (length (firsts)) (length (starts)) (length (groups)) (length (tasks)) (length (top)) (length (words)) (length (floats)) (length (rows)) (length (updates)) (length (values)))) u4 (c4-permutation) (c4-firsts) (c4-starts) (c4-groups) (c4-tasks) (c4-top) (c4-words) (c4-floats) (c4-rows) (c4-updates) (c4-values)) (same4-permutation : length c4-permutation ≡ length permutation) (same4-firsts : length c4-firsts ≡ length firsts) (same4-starts : length c4-starts ≡ length starts) (same4-groups : length c4-groups ≡ length groups) (same4-tasks : length c4-tasks ≡ length tasks) (same4-top : length c4-top ≡ length top) (same4-words : length c4-words ≡ length words) (same4-floats : length c4-floats ≡ length floats) (same4-rows : length c4-rows ≡ length rows) (same4-updates : length c4-updates ≡ length updates) (same4-values : length c4-values ≡ length values) (ν5-1 : ℕ) (δ5-1 : GName) (ν5-2 : ℕ) (δ5-2 : GName) (ν5-3 : ℕ) (δ5-3 : GName) (ν5-4 : ℕ) (δ5-4 : GName) (ν5-5 : ℕ) (δ5-5 : GName) (ν5-6 : ℕ) (δ5-6 : GName) (ν5-7 : ℕ) (δ5-7 : GName) (ν5-8 : ℕ) (δ5-8 : GName) (ν5-9 : ℕ) (δ5-9 : GName) → ent 𝓤 (onEntry 𝓤 H A f-answer.signature (ν5-1 ∷ [], (ν5-2 ∷ [], (ν5-3 ∷ [], (ν5-4 ∷ [], (ν5-5 ∷ [], (ν5-6 ∷ [], (ν5-7 ∷ [], (ν5-8 ∷ [], (ν5-9 ∷ [], tt))))))))) (fullShare, (fullShare, (fullShare, (fullShare, (fullShare, (fullShare, (fullShare, (fullShare, (fullShare, tt))))))))) (u4, (ref-permutation δ5-1 c4-permutation, (ref-firsts δ5-2 c4-firsts, (ref-starts δ5-3 c4-starts, (ref-rows δ5-4 c4-rows, (ref-values δ5-5 c4-values, (ref-words δ5-6 c4-words, (ref-floats δ5-7 c4-floats, (ref-b δ5-8 b, (ref-out δ5-9 out, tt)))))))))) (r4 ∷ [], (s-permutation ∷ [], (s-firsts ∷ [], (s-starts ∷ [], (s-rows ∷ [], (s-values ∷ [], (s-words ∷ [], (s-floats ∷ [], (s-b ∷ [], (s-out ∷ [], tt))))))))))) (C-answer 𝓤 H A mem run .pre (((ν5-1 ∷ [], (ν5-2 ∷ [], (ν5-3 ∷ [], (ν5-4 ∷ [], (ν5-5 ∷ [], (ν5-6 ∷ [], (ν5-7 ∷ [], (ν5-8 ∷ [], (ν5-9 ∷ [], tt))))))))), (fullShare, (fullShare, (fullShare, (fullShare, (fullShare, (fullShare, (fullShare, (fullShare, (fullShare, tt))))))))), tt, (u4, (ref-permutation δ5-1 c4-permutation, (ref-firsts δ5-2 c4-firsts, (ref-starts δ5-3 c4-starts, (ref-rows δ5-4 c4-rows, (ref-values δ5-5 c4-values, (ref-words δ5-6 c4-words, (ref-floats δ5-7 c4-floats, (ref-b δ5-8 b, (ref-out δ5-9 out, tt)))))))))), (r4 ∷ [], (s-permutation ∷ [], (s-firsts ∷ [], (s-starts ∷ [], (s-rows ∷ [], (s-values ∷ [], (s-words ∷ [], (s-floats ∷ [], (s-b ∷ [], (s-out ∷ [], tt))))))))))), tt))
+    asked5 : (u1 : Order) (r1 : Val) (is1 : Is T-Order.the-row u1 (r1 ∷ [])) (d1 : u1 ≡ Plain) (u2 : Stop) (r2 : Val) (is2 : Is T-Stop.the-row u2 (r2 ∷ [])) (d2 : u2 ≡ End) (u3 : Update) (r3 : Val) (is3 : Is T-Update.the-row u3 (r3 ∷ [])) (d3 : u3 ≡ noUpdate) (updates : List Update) (made-updates : updates ≡ replicate 8256 u3) (size-updates : length updates ≡ 8256) (u4 : Outcome) (r4 : Val) (is4 : Is T-Outcome.the-row u4 (r4 ∷ [])) (c4-permutation : List ℕ) (c4-firsts : List ℕ) (c4-starts : List ℕ) (c4-groups : List ℕ) (c4-tasks : List ℕ) (c4-top : List ℕ) (c4-words : List ℕ) (c4-floats : List Float) (c4-rows : List ℕ) (c4-updates : List Update) (c4-values : List Float) (d4 : Factors (matrix n (input-starts) (input-rows) (input-values)) cap u1 («list») u2 (record { permutation = length (permutation); firsts = length (firsts); starts = length (starts); groups = length (groups); tasks = length (tasks); top = length (top); words = length (words); floats = length (floats); rows = length (rows); updates = length (updates); values = length (values) }) (record { returned = u4; areas = record { permutation = c4-permutation; firsts = c4-firsts; starts = c4-starts; groups = c4-groups; tasks = c4-tasks; top = c4-top; words = c4-words; floats = c4-floats; rows = c4-rows; updates = c4-updates; values = c4-values } })) (same4-permutation : length c4-permutation ≡ length permutation) (same4-firsts : length c4-firsts ≡ length firsts) (same4-starts : length c4-starts ≡ length starts) (same4-groups : length c4-groups ≡ length groups) (same4-tasks : length c4-tasks ≡ length tasks) (same4-top : length c4-top ≡ length top) (same4-words : length c4-words ≡ length words) (same4-floats : length c4-floats ≡ length floats) (same4-rows : length c4-rows ≡ length rows) (same4-updates : length c4-updates ≡ length updates) (same4-values : length c4-values ≡ length values) (ν5-1 : ℕ) (δ5-1 : GName) (ν5-2 : ℕ) (δ5-2 : GName) (ν5-3 : ℕ) (δ5-3 : GName) (ν5-4 : ℕ) (δ5-4 : GName) (ν5-5 : ℕ) (δ5-5 : GName) (ν5-6 : ℕ) (δ5-6 : GName) (ν5-7 : ℕ) (δ5-7 : GName) (ν5-8 : ℕ) (δ5-8 : GName) (ν5-9 : ℕ) (δ5-9 : GName) → ent 𝓤 (onEntry 𝓤 H A f-answer.signature (ν5-1 ∷ [], (ν5-2 ∷ [], (ν5-3 ∷ [], (ν5-4 ∷ [], (ν5-5 ∷ [], (ν5-6 ∷ [], (ν5-7 ∷ [], (ν5-8 ∷ [], (ν5-9 ∷ [], tt))))))))) (fullShare, (fullShare, (fullShare, (fullShare, (fullShare, (fullShare, (fullShare, (fullShare, (fullShare, tt))))))))) (u4, (ref-permutation δ5-1 c4-permutation, (ref-firsts δ5-2 c4-firsts, (ref-starts δ5-3 c4-starts, (ref-rows δ5-4 c4-rows, (ref-values δ5-5 c4-values, (ref-words δ5-6 c4-words, (ref-floats δ5-7 c4-floats, (ref-b δ5-8 b, (ref-out δ5-9 out, tt)))))))))) (r4 ∷ [], (s-permutation ∷ [], (s-firsts ∷ [], (s-starts ∷ [], (s-rows ∷ [], (s-values ∷ [], (s-words ∷ [], (s-floats ∷ [], (s-b ∷ [], (s-out ∷ [], tt))))))))))) (C-answer 𝓤 H A mem run .pre (((ν5-1 ∷ [], (ν5-2 ∷ [], (ν5-3 ∷ [], (ν5-4 ∷ [], (ν5-5 ∷ [], (ν5-6 ∷ [], (ν5-7 ∷ [], (ν5-8 ∷ [], (ν5-9 ∷ [], tt))))))))), (fullShare, (fullShare, (fullShare, (fullShare, (fullShare, (fullShare, (fullShare, (fullShare, (fullShare, tt))))))))), tt, (u4, (ref-permutation δ5-1 c4-permutation, (ref-firsts δ5-2 c4-firsts, (ref-starts δ5-3 c4-starts, (ref-rows δ5-4 c4-rows, (ref-values δ5-5 c4-values, (ref-words δ5-6 c4-words, (ref-floats δ5-7 c4-floats, (ref-b δ5-8 b, (ref-out δ5-9 out, tt)))))))))), (r4 ∷ [], (s-permutation ∷ [], (s-firsts ∷ [], (s-starts ∷ [], (s-rows ∷ [], (s-values ∷ [], (s-words ∷ [], (s-floats ∷ [], (s-b ∷ [], (s-out ∷ [], tt))))))))))), tt))
     asked5 u1 r1 is1 d1 u2 r2 is2 d2 u3 r3 is3 d3 updates made-updates size-updates u4 r4 is4 c4-permutation c4-firsts c4-starts c4-groups c4-tasks c4-top c4-words c4-floats c4-rows c4-updates c4-values d4 same4-permutation same4-firsts same4-starts same4-groups same4-tasks same4-top same4-words same4-floats same4-rows same4-updates same4-values ν5-1 δ5-1 ν5-2 δ5-2 ν5-3 δ5-3 ν5-4 δ5-4 ν5-5 δ5-5 ν5-6 δ5-6 ν5-7 δ5-7 ν5-8 δ5-8 ν5-9 δ5-9 =
         let need : length (b) ≤ 128 = pre in qed W ((‵ (flft (ν5-1 ∷ []) fullShare) ⊛ ‵ (flft (ν5-2 ∷ []) fullShare) ⊛ ‵ (flft (ν5-3 ∷ []) fullShare) ⊛ ‵ (flft (ν5-4 ∷ []) fullShare) ⊛ ‵ (flft (ν5-5 ∷ []) fullShare) ⊛ ‵ (flft (ν5-6 ∷ []) fullShare) ⊛ ‵ (flft (ν5-7 ∷ []) fullShare) ⊛ ‵ (flft (ν5-8 ∷ []) fullShare) ⊛ ‵ (flft (ν5-9 ∷ []) fullShare) ⊛ ‵ ftrue) ∷ ‵ (owns (T-Outcome.the-row ∷ ShrSlice (named 0) (ν5-1 ∷ []) usize ∷ ShrSlice (named 1) (ν5-2 ∷ []) usize ∷ ShrSlice (named 2) (ν5-3 ∷ []) usize ∷ ShrSlice (named 3) (ν5-4 ∷ []) usize ∷ ShrSlice (named 4) (ν5-5 ∷ []) f64 ∷ MutSlice (named 5) (ν5-6 ∷ []) usize ∷ MutSlice (named 6) (ν5-7 ∷ []) f64 ∷ MutSlice (named 7) (ν5-8 ∷ []) f64 ∷ MutRef (named 8) (ν5-9 ∷ []) (Array u8 2959) ∷ []) (u4, (ref-permutation δ5-1 c4-permutation, (ref-firsts δ5-2 c4-firsts, (ref-starts δ5-3 c4-starts, (ref-rows δ5-4 c4-rows, (ref-values δ5-5 c4-values, (ref-words δ5-6 c4-words, (ref-floats δ5-7 c4-floats, (ref-b δ5-8 b, (ref-out δ5-9 out, tt)))))))))) (r4 ∷ [], (s-permutation ∷ [], (s-firsts ∷ [], (s-starts ∷ [], (s-rows ∷ [], (s-values ∷ [], (s-words ∷ [], (s-floats ∷ [], (s-b ∷ [], (s-out ∷ [], tt))))))))))) ∷ []) ∵ w-says ! need $ w-frame ! $ done !
 
@@ -470,7 +470,7 @@ module _ {M : Type 1} (𝓤 : URA M) (H : Heap 𝓤) (A : Atoms 𝓤) (W : Given
       abbrev dying : List (Item 𝓤)
       dying = ‵ (fdies ty0 l0) ∷ ‵ (fdies ty1 l1) ∷ ‵ (fdies ty2 l2) ∷ ‵ (fdies ty3 l3) ∷ ‵ (fdies ty4 l4) ∷ ‵ (fdies ty5 l5) ∷ ‵ (fdies ty6 l6) ∷ ‵ (fdies ty7 l7) ∷ ‵ (fdies ty8 l8) ∷ ‵ (fdies ty9 l9) ∷ ‵ (fdies ty10 l10) ∷ ‵ (fdies ty11 l11) ∷ ‵ (fdies ty12 l12) ∷ ‵ (fdies ty13 l13) ∷ ‵ (fdies ty14 l14) ∷ ‵ (fdies ty15 l15) ∷ ‵ (fdies ty16 l16) ∷ ‵ (fdies ty17 l17) ∷ ‵ (fdies ty18 l18) ∷ ‵ (fdies ty19 l19) ∷ ‵ (fdies ty20 l20) ∷ ‵ (fdies ty21 l21) ∷ ‵ (fdies ty22 l22) ∷ ‵ (fdies ty23 l23) ∷ ‵ (fdies ty24 l24) ∷ ‵ (fdies ty25 l25) ∷ ‵ (fdies ty26 l26) ∷ ‵ (fdies ty27 l27) ∷ ‵ (fdies ty28 l28) ∷ ‵ (fdies ty29 l29) ∷ ‵ (fdies ty30 l30) ∷ ‵ (fdies ty31 l31) ∷ ‵ (fdies ty32 l32) ∷ ‵ (fdies ty33 l33) ∷ ‵ (fdies ty34 l34) ∷ ‵ (fdies ty35 l35) ∷ ‵ (fdies ty36 l36) ∷ ‵ (fdies ty37 l37) ∷ ‵ (fdies ty38 l38) ∷ ‵ (fdies ty39 l39) ∷ ‵ (fdies ty40 l40) ∷ ‵ (fdies ty41 l41) ∷ ‵ (fdies ty42 l42) ∷ ‵ (fdies ty43 l43) ∷ ‵ (fdies ty44 l44) ∷ ‵ (fdies ty45 l45) ∷ ‵ (fdies ty46 l46) ∷ ‵ (fdies ty47 l47) ∷ ‵ (fdies ty48 l48) ∷ ‵ (fdies ty49 l49) ∷ ‵ (fdies ty50 l50) ∷ ‵ (fdies ty51 l51) ∷ ‵ (fdies ty52 l52) ∷ ‵ (fdies ty53 l53) ∷ ‵ (fdies ty54 l54) ∷ ‵ (fdies ty55 l55) ∷ ‵ (fdies ty56 l56) ∷ ‵ (fdies ty57 l57) ∷ ‵ (fdies ty58 l58) ∷ ‵ (fdies ty59 l59) ∷ ‵ (fdies ty60 l60) ∷ ‵ (fdies ty61 l61) ∷ ‵ (fdies ty62 l62) ∷ []
 
-      after5 : (u1 : Order) (r1 : Val) (is1 : Is T-Order.the-row u1 (r1 ∷ [])) (d1 : u1 ≡ Plain) (u2 : Stop) (r2 : Val) (is2 : Is T-Stop.the-row u2 (r2 ∷ [])) (d2 : u2 ≡ End) (u3 : Update) (r3 : Val) (is3 : Is T-Update.the-row u3 (r3 ∷ [])) (d3 : u3 ≡ noUpdate) (updates : List Update) (made-updates : updates ≡ replicate 8256 u3) (size-updates : length updates ≡ 8256) (u4 : Outcome) (r4 : Val) (is4 : Is T-Outcome.the-row u4 (r4 ∷ [])) (c4-permutation : List ℕ) (c4-firsts : List ℕ) (c4-starts : List ℕ) (c4-groups : List ℕ) (c4-tasks : List ℕ) (c4-top : List ℕ) (c4-words : List ℕ) (c4-floats : List Float) (c4-rows : List ℕ) (c4-updates : List Update) (c4-values : List Float) (d4 : FactorSettles (factor (matrix n (input-starts) (input-rows) (input-values)) cap u1 («list») u2 (lentAll (length (permutation)) (length (firsts)) (length (starts)) (length (groups)) (length (tasks)) (length (top)) (length (words)) (length (floats)) (length (rows)) (length (updates)) (length (values)))) u4 (c4-permutation) (c4-firsts) (c4-starts) (c4-groups) (c4-tasks) (c4-top) (c4-words) (c4-floats) (c4-rows) (c4-updates) (c4-values)) (same4-permutation : length c4-permutation ≡ length permutation) (same4-firsts : length c4-firsts ≡ length firsts) (same4-starts : length c4-starts ≡ length starts) (same4-groups : length c4-groups ≡ length groups) (same4-tasks : length c4-tasks ≡ length tasks) (same4-top : length c4-top ≡ length top) (same4-words : length c4-words ≡ length words) (same4-floats : length c4-floats ≡ length floats) (same4-rows : length c4-rows ≡ length rows) (same4-updates : length c4-updates ≡ length updates) (same4-values : length c4-values ≡ length values) (u5 : ℕ) (r5 : Val) (is5 : Is usize u5 (r5 ∷ [])) (c5-words : List ℕ) (c5-floats : List Float) (c5-b : List Float) (c5-out : List ℕ) (d5 : ((j : Frames) → Made j u4 (lent (c4-permutation) (c4-firsts) (c4-starts) (c4-rows) (c4-values)) (b) (length (c4-words)) (length (c4-floats)) → Wrote (written (whole j)) u5 (out) (c5-out))) (same5-words : length c5-words ≡ length c4-words) (same5-floats : length c5-floats ≡ length c4-floats) (same5-b : length c5-b ≡ length b) → Sq W (‵ (ShrSlice (named 0) κ-input-starts usize .own (ref-input-starts γ-input-starts input-starts) (sliceVal (b-input-starts, o-input-starts) (length input-starts) ∷ [])) ∷ ‵ (ShrSlice (named 1) κ-input-rows usize .own (ref-input-rows γ-input-rows input-rows) (sliceVal (b-input-rows, o-input-rows) (length input-rows) ∷ [])) ∷ ‵ (ShrSlice (named 2) κ-input-values f64 .own (ref-input-values γ-input-values input-values) (sliceVal (b-input-values, o-input-values) (length input-values) ∷ [])) ∷ ‵ (ShrSlice (named 3) κ-list usize .own (ref-list γ-list «list») (sliceVal (b-list, o-list) (length «list») ∷ [])) ∷ ‵ (MutSlice (named 4) κ-permutation usize .own (ref-permutation γ-permutation c4-permutation) (sliceVal (b-permutation, o-permutation) (length permutation) ∷ [])) ∷ ‵ (MutSlice (named 5) κ-firsts usize .own (ref-firsts γ-firsts c4-firsts) (sliceVal (b-firsts, o-firsts) (length firsts) ∷ [])) ∷ ‵ (MutSlice (named 6) κ-starts usize .own (ref-starts γ-starts c4-starts) (sliceVal (b-starts, o-starts) (length starts) ∷ [])) ∷ ‵ (MutSlice (named 7) κ-groups usize .own (ref-groups γ-groups c4-groups) (sliceVal (b-groups, o-groups) (length groups) ∷ [])) ∷ ‵ (MutSlice (named 8) κ-tasks usize .own (ref-tasks γ-tasks c4-tasks) (sliceVal (b-tasks, o-tasks) (length tasks) ∷ [])) ∷ ‵ (MutSlice (named 9) κ-top usize .own (ref-top γ-top c4-top) (sliceVal (b-top, o-top) (length top) ∷ [])) ∷ ‵ (MutSlice (named 10) κ-words usize .own (ref-words γ-words c5-words) (sliceVal (b-words, o-words) (length words) ∷ [])) ∷ ‵ (MutSlice (named 11) κ-floats f64 .own (ref-floats γ-floats c5-floats) (sliceVal (b-floats, o-floats) (length floats) ∷ [])) ∷ ‵ (MutSlice (named 12) κ-rows usize .own (ref-rows γ-rows c4-rows) (sliceVal (b-rows, o-rows) (length rows) ∷ [])) ∷ ‵ (MutSlice (named 13) κ-values f64 .own (ref-values γ-values c4-values) (sliceVal (b-values, o-values) (length values) ∷ [])) ∷ ‵ (MutSlice (named 14) κ-b f64 .own (ref-b γ-b c5-b) (sliceVal (b-b, o-b) (length b) ∷ [])) ∷ ‵ (MutRef (named 15) κ-out (Array u8 2959) .own (ref-out γ-out c5-out) (s-out ∷ [])) ∷ ‵ (flft κ-input-starts q-input-starts) ∷ ‵ (flft κ-input-rows q-input-rows) ∷ ‵ (flft κ-input-values q-input-values) ∷ ‵ (flft κ-list q-list) ∷ ‵ (flft κ-permutation q-permutation) ∷ ‵ (flft κ-firsts q-firsts) ∷ ‵ (flft κ-starts q-starts) ∷ ‵ (flft κ-groups q-groups) ∷ ‵ (flft κ-tasks q-tasks) ∷ ‵ (flft κ-top q-top) ∷ ‵ (flft κ-words q-words) ∷ ‵ (flft κ-floats q-floats) ∷ ‵ (flft κ-rows q-rows) ∷ ‵ (flft κ-values q-values) ∷ ‵ (flft κ-b q-b) ∷ ‵ (flft κ-out q-out) ∷ ‵ (fat fullShare ty0 l0 0 r5) ∷ ‵ (fat fullShare ty1 l1 0 (vint w64 n)) ∷ ‵ (fat fullShare ty2 l2 0 s-input-starts) ∷ ‵ (fat fullShare ty3 l3 0 s-input-rows) ∷ ‵ (fat fullShare ty4 l4 0 s-input-values) ∷ ‵ (fat fullShare ty5 l5 0 (vint w64 cap)) ∷ ‵ (fat fullShare ty6 l6 0 s-list) ∷ ‵ (fat fullShare ty7 l7 0 s-permutation) ∷ ‵ (fat fullShare ty8 l8 0 s-firsts) ∷ ‵ (fat fullShare ty9 l9 0 s-starts) ∷ ‵ (fat fullShare ty10 l10 0 s-groups) ∷ ‵ (fat fullShare ty11 l11 0 s-tasks) ∷ ‵ (fat fullShare ty12 l12 0 s-top) ∷ ‵ (fat fullShare ty13 l13 0 s-words) ∷ ‵ (fat fullShare ty14 l14 0 s-floats) ∷ ‵ (fat fullShare ty15 l15 0 s-rows) ∷ ‵ (fat fullShare ty16 l16 0 s-values) ∷ ‵ (fat fullShare ty17 l17 0 s-b) ∷ ‵ (fat fullShare ty18 l18 0 s-out) ∷ ‵ (fat fullShare ty19 l19 0 r1) ∷ ‵ (fat fullShare ty20 l20 0 r2) ∷ ‵ (fat fullShare ty21 l21 0 r3) ∷ ‵ (Lies T-Update.the-row 8256 l22 0 c4-updates) ∷ ‵ (fat fullShare ty23 l23 0 r4) ∷ raw (Packed 𝓤 H A spare4) ∷ raw (Packed 𝓤 H A spare5) ∷ raw (Packed 𝓤 H A dying) ∷ []) (runs C Λ En body.t-46 (atRet En Post))
+      after5 : (u1 : Order) (r1 : Val) (is1 : Is T-Order.the-row u1 (r1 ∷ [])) (d1 : u1 ≡ Plain) (u2 : Stop) (r2 : Val) (is2 : Is T-Stop.the-row u2 (r2 ∷ [])) (d2 : u2 ≡ End) (u3 : Update) (r3 : Val) (is3 : Is T-Update.the-row u3 (r3 ∷ [])) (d3 : u3 ≡ noUpdate) (updates : List Update) (made-updates : updates ≡ replicate 8256 u3) (size-updates : length updates ≡ 8256) (u4 : Outcome) (r4 : Val) (is4 : Is T-Outcome.the-row u4 (r4 ∷ [])) (c4-permutation : List ℕ) (c4-firsts : List ℕ) (c4-starts : List ℕ) (c4-groups : List ℕ) (c4-tasks : List ℕ) (c4-top : List ℕ) (c4-words : List ℕ) (c4-floats : List Float) (c4-rows : List ℕ) (c4-updates : List Update) (c4-values : List Float) (d4 : Factors (matrix n (input-starts) (input-rows) (input-values)) cap u1 («list») u2 (record { permutation = length (permutation); firsts = length (firsts); starts = length (starts); groups = length (groups); tasks = length (tasks); top = length (top); words = length (words); floats = length (floats); rows = length (rows); updates = length (updates); values = length (values) }) (record { returned = u4; areas = record { permutation = c4-permutation; firsts = c4-firsts; starts = c4-starts; groups = c4-groups; tasks = c4-tasks; top = c4-top; words = c4-words; floats = c4-floats; rows = c4-rows; updates = c4-updates; values = c4-values } })) (same4-permutation : length c4-permutation ≡ length permutation) (same4-firsts : length c4-firsts ≡ length firsts) (same4-starts : length c4-starts ≡ length starts) (same4-groups : length c4-groups ≡ length groups) (same4-tasks : length c4-tasks ≡ length tasks) (same4-top : length c4-top ≡ length top) (same4-words : length c4-words ≡ length words) (same4-floats : length c4-floats ≡ length floats) (same4-rows : length c4-rows ≡ length rows) (same4-updates : length c4-updates ≡ length updates) (same4-values : length c4-values ≡ length values) (u5 : ℕ) (r5 : Val) (is5 : Is usize u5 (r5 ∷ [])) (c5-words : List ℕ) (c5-floats : List Float) (c5-b : List Float) (c5-out : List ℕ) (d5 : ((j : Frames) → Made j u4 (lent (c4-permutation) (c4-firsts) (c4-starts) (c4-rows) (c4-values)) (b) (length (c4-words)) (length (c4-floats)) → record { out = c5-out; bytes = u5 } ≡ answerIn (written (whole j)) (out))) (same5-words : length c5-words ≡ length c4-words) (same5-floats : length c5-floats ≡ length c4-floats) (same5-b : length c5-b ≡ length b) → Sq W (‵ (ShrSlice (named 0) κ-input-starts usize .own (ref-input-starts γ-input-starts input-starts) (sliceVal (b-input-starts, o-input-starts) (length input-starts) ∷ [])) ∷ ‵ (ShrSlice (named 1) κ-input-rows usize .own (ref-input-rows γ-input-rows input-rows) (sliceVal (b-input-rows, o-input-rows) (length input-rows) ∷ [])) ∷ ‵ (ShrSlice (named 2) κ-input-values f64 .own (ref-input-values γ-input-values input-values) (sliceVal (b-input-values, o-input-values) (length input-values) ∷ [])) ∷ ‵ (ShrSlice (named 3) κ-list usize .own (ref-list γ-list «list») (sliceVal (b-list, o-list) (length «list») ∷ [])) ∷ ‵ (MutSlice (named 4) κ-permutation usize .own (ref-permutation γ-permutation c4-permutation) (sliceVal (b-permutation, o-permutation) (length permutation) ∷ [])) ∷ ‵ (MutSlice (named 5) κ-firsts usize .own (ref-firsts γ-firsts c4-firsts) (sliceVal (b-firsts, o-firsts) (length firsts) ∷ [])) ∷ ‵ (MutSlice (named 6) κ-starts usize .own (ref-starts γ-starts c4-starts) (sliceVal (b-starts, o-starts) (length starts) ∷ [])) ∷ ‵ (MutSlice (named 7) κ-groups usize .own (ref-groups γ-groups c4-groups) (sliceVal (b-groups, o-groups) (length groups) ∷ [])) ∷ ‵ (MutSlice (named 8) κ-tasks usize .own (ref-tasks γ-tasks c4-tasks) (sliceVal (b-tasks, o-tasks) (length tasks) ∷ [])) ∷ ‵ (MutSlice (named 9) κ-top usize .own (ref-top γ-top c4-top) (sliceVal (b-top, o-top) (length top) ∷ [])) ∷ ‵ (MutSlice (named 10) κ-words usize .own (ref-words γ-words c5-words) (sliceVal (b-words, o-words) (length words) ∷ [])) ∷ ‵ (MutSlice (named 11) κ-floats f64 .own (ref-floats γ-floats c5-floats) (sliceVal (b-floats, o-floats) (length floats) ∷ [])) ∷ ‵ (MutSlice (named 12) κ-rows usize .own (ref-rows γ-rows c4-rows) (sliceVal (b-rows, o-rows) (length rows) ∷ [])) ∷ ‵ (MutSlice (named 13) κ-values f64 .own (ref-values γ-values c4-values) (sliceVal (b-values, o-values) (length values) ∷ [])) ∷ ‵ (MutSlice (named 14) κ-b f64 .own (ref-b γ-b c5-b) (sliceVal (b-b, o-b) (length b) ∷ [])) ∷ ‵ (MutRef (named 15) κ-out (Array u8 2959) .own (ref-out γ-out c5-out) (s-out ∷ [])) ∷ ‵ (flft κ-input-starts q-input-starts) ∷ ‵ (flft κ-input-rows q-input-rows) ∷ ‵ (flft κ-input-values q-input-values) ∷ ‵ (flft κ-list q-list) ∷ ‵ (flft κ-permutation q-permutation) ∷ ‵ (flft κ-firsts q-firsts) ∷ ‵ (flft κ-starts q-starts) ∷ ‵ (flft κ-groups q-groups) ∷ ‵ (flft κ-tasks q-tasks) ∷ ‵ (flft κ-top q-top) ∷ ‵ (flft κ-words q-words) ∷ ‵ (flft κ-floats q-floats) ∷ ‵ (flft κ-rows q-rows) ∷ ‵ (flft κ-values q-values) ∷ ‵ (flft κ-b q-b) ∷ ‵ (flft κ-out q-out) ∷ ‵ (fat fullShare ty0 l0 0 r5) ∷ ‵ (fat fullShare ty1 l1 0 (vint w64 n)) ∷ ‵ (fat fullShare ty2 l2 0 s-input-starts) ∷ ‵ (fat fullShare ty3 l3 0 s-input-rows) ∷ ‵ (fat fullShare ty4 l4 0 s-input-values) ∷ ‵ (fat fullShare ty5 l5 0 (vint w64 cap)) ∷ ‵ (fat fullShare ty6 l6 0 s-list) ∷ ‵ (fat fullShare ty7 l7 0 s-permutation) ∷ ‵ (fat fullShare ty8 l8 0 s-firsts) ∷ ‵ (fat fullShare ty9 l9 0 s-starts) ∷ ‵ (fat fullShare ty10 l10 0 s-groups) ∷ ‵ (fat fullShare ty11 l11 0 s-tasks) ∷ ‵ (fat fullShare ty12 l12 0 s-top) ∷ ‵ (fat fullShare ty13 l13 0 s-words) ∷ ‵ (fat fullShare ty14 l14 0 s-floats) ∷ ‵ (fat fullShare ty15 l15 0 s-rows) ∷ ‵ (fat fullShare ty16 l16 0 s-values) ∷ ‵ (fat fullShare ty17 l17 0 s-b) ∷ ‵ (fat fullShare ty18 l18 0 s-out) ∷ ‵ (fat fullShare ty19 l19 0 r1) ∷ ‵ (fat fullShare ty20 l20 0 r2) ∷ ‵ (fat fullShare ty21 l21 0 r3) ∷ ‵ (Lies T-Update.the-row 8256 l22 0 c4-updates) ∷ ‵ (fat fullShare ty23 l23 0 r4) ∷ raw (Packed 𝓤 H A spare4) ∷ raw (Packed 𝓤 H A spare5) ∷ raw (Packed 𝓤 H A dying) ∷ []) (runs C Λ En body.t-46 (atRet En Post))
       after5 u1 r1 is1 d1 u2 r2 is2 d2 u3 r3 is3 d3 updates made-updates size-updates u4 r4 is4 c4-permutation c4-firsts c4-starts c4-groups c4-tasks c4-top c4-words c4-floats c4-rows c4-updates c4-values d4 same4-permutation same4-firsts same4-starts same4-groups same4-tasks same4-top same4-words same4-floats same4-rows same4-updates same4-values u5 r5 is5 c5-words c5-floats c5-b c5-out d5 same5-words same5-floats same5-b =
           w-returns ! (w-look ! 32 refl) $ w-forget ! 32 refl $ w-forget ! 33 refl $ w-forget ! 34 refl $ w-forget ! 35 refl $ w-forget ! 36 refl $ w-forget ! 37 refl $ w-forget ! 38 refl $ w-forget ! 39 refl $ w-forget ! 40 refl $ w-forget ! 41 refl $ w-forget ! 42 refl $ w-forget ! 43 refl $ w-forget ! 44 refl $ w-forget ! 45 refl $ w-forget ! 46 refl $ w-forget ! 47 refl $ w-forget ! 48 refl $ w-forget ! 49 refl $ w-forget ! 50 refl $ w-forget ! 51 refl $ w-forget ! 52 refl $ w-forget ! 53 refl $ w-move ! (54 ∷ []) $ use1 W (‵ (froom ty22 l22 0)) (array-dies 𝓤 H A W T-Update.the-row tt 8256 l22 0 c4-updates) $ w-forget ! 55 refl $
           w-move ! (56 ∷ []) $ w-unpack ! (‵ (froom ty24 l24 0) ∷ ‵ (froom ty25 l25 0) ∷ ‵ (froom ty26 l26 0) ∷ ‵ (froom ty27 l27 0) ∷ ‵ (froom ty28 l28 0) ∷ ‵ (froom ty29 l29 0) ∷ ‵ (froom ty30 l30 0) ∷ ‵ (froom ty31 l31 0) ∷ ‵ (froom ty32 l32 0) ∷ ‵ (froom ty33 l33 0) ∷ ‵ (froom ty34 l34 0) ∷ ‵ (froom ty35 l35 0) ∷ ‵ (froom ty36 l36 0) ∷ ‵ (froom ty37 l37 0) ∷ ‵ (froom ty38 l38 0) ∷ ‵ (froom ty39 l39 0) ∷ ‵ (froom ty40 l40 0) ∷ ‵ (froom ty41 l41 0) ∷ ‵ (froom ty42 l42 0) ∷ ‵ (froom ty43 l43 0) ∷ ‵ (froom ty44 l44 0) ∷ ‵ (froom ty45 l45 0) ∷ []) $
@@ -479,7 +479,7 @@ module _ {M : Type 1} (𝓤 : URA M) (H : Heap 𝓤) (A : Atoms 𝓤) (W : Given
           w-move ! (135 ∷ 0 ∷ 136 ∷ 1 ∷ 137 ∷ 2 ∷ 138 ∷ 3 ∷ 139 ∷ 4 ∷ 140 ∷ 5 ∷ 141 ∷ 6 ∷ 142 ∷ 7 ∷ 143 ∷ 8 ∷ 144 ∷ 9 ∷ 145 ∷ 10 ∷ 146 ∷ 11 ∷ 147 ∷ 12 ∷ 148 ∷ 13 ∷ 149 ∷ 14 ∷ 150 ∷ 15 ∷ 151 ∷ 16 ∷ 152 ∷ 17 ∷ 153 ∷ 18 ∷ 154 ∷ 19 ∷ 155 ∷ 20 ∷ 156 ∷ 21 ∷ 102 ∷ 22 ∷ 157 ∷ 23 ∷ 80 ∷ 24 ∷ 81 ∷ 25 ∷ 82 ∷ 26 ∷ 83 ∷ 27 ∷ 84 ∷ 28 ∷ 85 ∷ 29 ∷ 86 ∷ 30 ∷ 87 ∷ 31 ∷ 88 ∷ 32 ∷ 89 ∷ 33 ∷ 90 ∷ 34 ∷ 91 ∷ 35 ∷ 92 ∷ 36 ∷ 93 ∷ 37 ∷ 94 ∷ 38 ∷ 95 ∷ 39 ∷ 96 ∷ 40 ∷ 97 ∷ 41 ∷ 98 ∷ 42 ∷ 99 ∷ 43 ∷ 100 ∷ 44 ∷ 101 ∷ 45 ∷ 63 ∷ 46 ∷ 64 ∷ 47 ∷ 65 ∷ 48 ∷ 66 ∷ 49 ∷ 67 ∷ 50 ∷ 68 ∷ 51 ∷ 69 ∷ 52 ∷ 70 ∷ 53 ∷ 71 ∷ 54 ∷ 72 ∷ 55 ∷ 73 ∷ 56 ∷ 74 ∷ 57 ∷ 75 ∷ 58 ∷ 76 ∷ 59 ∷ 77 ∷ 60 ∷ 78 ∷ 61 ∷ 79 ∷ 62 ∷ []) $ w-homes-freed ! En $
           w-keep ! (16 ∷ 17 ∷ 18 ∷ 19 ∷ 20 ∷ 21 ∷ 22 ∷ 23 ∷ 24 ∷ 25 ∷ 26 ∷ 27 ∷ 28 ∷ 29 ∷ 30 ∷ 31 ∷ 0 ∷ 1 ∷ 2 ∷ 3 ∷ 4 ∷ 5 ∷ 6 ∷ 7 ∷ 8 ∷ 9 ∷ 10 ∷ 11 ∷ 12 ∷ 13 ∷ 14 ∷ 15 ∷ []) $ w-by ! (exits u1 r1 is1 d1 u2 r2 is2 d2 u3 r3 is3 d3 updates made-updates size-updates u4 r4 is4 c4-permutation c4-firsts c4-starts c4-groups c4-tasks c4-top c4-words c4-floats c4-rows c4-updates c4-values d4 same4-permutation same4-firsts same4-starts same4-groups same4-tasks same4-top same4-words same4-floats same4-rows same4-updates same4-values u5 r5 is5 c5-words c5-floats c5-b c5-out d5 same5-words same5-floats same5-b)
 
-      after4 : (u1 : Order) (r1 : Val) (is1 : Is T-Order.the-row u1 (r1 ∷ [])) (d1 : u1 ≡ Plain) (u2 : Stop) (r2 : Val) (is2 : Is T-Stop.the-row u2 (r2 ∷ [])) (d2 : u2 ≡ End) (u3 : Update) (r3 : Val) (is3 : Is T-Update.the-row u3 (r3 ∷ [])) (d3 : u3 ≡ noUpdate) (updates : List Update) (made-updates : updates ≡ replicate 8256 u3) (size-updates : length updates ≡ 8256) (u4 : Outcome) (r4 : Val) (is4 : Is T-Outcome.the-row u4 (r4 ∷ [])) (c4-permutation : List ℕ) (c4-firsts : List ℕ) (c4-starts : List ℕ) (c4-groups : List ℕ) (c4-tasks : List ℕ) (c4-top : List ℕ) (c4-words : List ℕ) (c4-floats : List Float) (c4-rows : List ℕ) (c4-updates : List Update) (c4-values : List Float) (d4 : FactorSettles (factor (matrix n (input-starts) (input-rows) (input-values)) cap u1 («list») u2 (lentAll (length (permutation)) (length (firsts)) (length (starts)) (length (groups)) (length (tasks)) (length (top)) (length (words)) (length (floats)) (length (rows)) (length (updates)) (length (values)))) u4 (c4-permutation) (c4-firsts) (c4-starts) (c4-groups) (c4-tasks) (c4-top) (c4-words) (c4-floats) (c4-rows) (c4-updates) (c4-values)) (same4-permutation : length c4-permutation ≡ length permutation) (same4-firsts : length c4-firsts ≡ length firsts) (same4-starts : length c4-starts ≡ length starts) (same4-groups : length c4-groups ≡ length groups) (same4-tasks : length c4-tasks ≡ length tasks) (same4-top : length c4-top ≡ length top) (same4-words : length c4-words ≡ length words) (same4-floats : length c4-floats ≡ length floats) (same4-rows : length c4-rows ≡ length rows) (same4-updates : length c4-updates ≡ length updates) (same4-values : length c4-values ≡ length values) → Sq W (‵ (ShrSlice (named 0) κ-input-starts usize .own (ref-input-starts γ-input-starts input-starts) (sliceVal (b-input-starts, o-input-starts) (length input-starts) ∷ [])) ∷ ‵ (ShrSlice (named 1) κ-input-rows usize .own (ref-input-rows γ-input-rows input-rows) (sliceVal (b-input-rows, o-input-rows) (length input-rows) ∷ [])) ∷ ‵ (ShrSlice (named 2) κ-input-values f64 .own (ref-input-values γ-input-values input-values) (sliceVal (b-input-values, o-input-values) (length input-values) ∷ [])) ∷ ‵ (ShrSlice (named 3) κ-list usize .own (ref-list γ-list «list») (sliceVal (b-list, o-list) (length «list») ∷ [])) ∷ ‵ (MutSlice (named 4) κ-permutation usize .own (ref-permutation γ-permutation c4-permutation) (sliceVal (b-permutation, o-permutation) (length permutation) ∷ [])) ∷ ‵ (MutSlice (named 5) κ-firsts usize .own (ref-firsts γ-firsts c4-firsts) (sliceVal (b-firsts, o-firsts) (length firsts) ∷ [])) ∷ ‵ (MutSlice (named 6) κ-starts usize .own (ref-starts γ-starts c4-starts) (sliceVal (b-starts, o-starts) (length starts) ∷ [])) ∷ ‵ (MutSlice (named 7) κ-groups usize .own (ref-groups γ-groups c4-groups) (sliceVal (b-groups, o-groups) (length groups) ∷ [])) ∷ ‵ (MutSlice (named 8) κ-tasks usize .own (ref-tasks γ-tasks c4-tasks) (sliceVal (b-tasks, o-tasks) (length tasks) ∷ [])) ∷ ‵ (MutSlice (named 9) κ-top usize .own (ref-top γ-top c4-top) (sliceVal (b-top, o-top) (length top) ∷ [])) ∷ ‵ (MutSlice (named 10) κ-words usize .own (ref-words γ-words c4-words) (sliceVal (b-words, o-words) (length words) ∷ [])) ∷ ‵ (MutSlice (named 11) κ-floats f64 .own (ref-floats γ-floats c4-floats) (sliceVal (b-floats, o-floats) (length floats) ∷ [])) ∷ ‵ (MutSlice (named 12) κ-rows usize .own (ref-rows γ-rows c4-rows) (sliceVal (b-rows, o-rows) (length rows) ∷ [])) ∷ ‵ (MutSlice (named 13) κ-values f64 .own (ref-values γ-values c4-values) (sliceVal (b-values, o-values) (length values) ∷ [])) ∷ ‵ (MutSlice (named 14) κ-b f64 .own (ref-b γ-b b) (sliceVal (b-b, o-b) (length b) ∷ [])) ∷ ‵ (MutRef (named 15) κ-out (Array u8 2959) .own (ref-out γ-out out) (s-out ∷ [])) ∷ ‵ (flft κ-input-starts q-input-starts) ∷ ‵ (flft κ-input-rows q-input-rows) ∷ ‵ (flft κ-input-values q-input-values) ∷ ‵ (flft κ-list q-list) ∷ ‵ (flft κ-permutation q-permutation) ∷ ‵ (flft κ-firsts q-firsts) ∷ ‵ (flft κ-starts q-starts) ∷ ‵ (flft κ-groups q-groups) ∷ ‵ (flft κ-tasks q-tasks) ∷ ‵ (flft κ-top q-top) ∷ ‵ (flft κ-words q-words) ∷ ‵ (flft κ-floats q-floats) ∷ ‵ (flft κ-rows q-rows) ∷ ‵ (flft κ-values q-values) ∷ ‵ (flft κ-b q-b) ∷ ‵ (flft κ-out q-out) ∷ ‵ (froom ty0 l0 0) ∷ ‵ (fat fullShare ty1 l1 0 (vint w64 n)) ∷ ‵ (fat fullShare ty2 l2 0 s-input-starts) ∷ ‵ (fat fullShare ty3 l3 0 s-input-rows) ∷ ‵ (fat fullShare ty4 l4 0 s-input-values) ∷ ‵ (fat fullShare ty5 l5 0 (vint w64 cap)) ∷ ‵ (fat fullShare ty6 l6 0 s-list) ∷ ‵ (fat fullShare ty7 l7 0 s-permutation) ∷ ‵ (fat fullShare ty8 l8 0 s-firsts) ∷ ‵ (fat fullShare ty9 l9 0 s-starts) ∷ ‵ (fat fullShare ty10 l10 0 s-groups) ∷ ‵ (fat fullShare ty11 l11 0 s-tasks) ∷ ‵ (fat fullShare ty12 l12 0 s-top) ∷ ‵ (fat fullShare ty13 l13 0 s-words) ∷ ‵ (fat fullShare ty14 l14 0 s-floats) ∷ ‵ (fat fullShare ty15 l15 0 s-rows) ∷ ‵ (fat fullShare ty16 l16 0 s-values) ∷ ‵ (fat fullShare ty17 l17 0 s-b) ∷ ‵ (fat fullShare ty18 l18 0 s-out) ∷ ‵ (fat fullShare ty19 l19 0 r1) ∷ ‵ (fat fullShare ty20 l20 0 r2) ∷ ‵ (fat fullShare ty21 l21 0 r3) ∷ ‵ (Lies T-Update.the-row 8256 l22 0 c4-updates) ∷ ‵ (fat fullShare ty23 l23 0 r4) ∷ raw (Packed 𝓤 H A spare4) ∷ raw (Packed 𝓤 H A spare5) ∷ raw (Packed 𝓤 H A dying) ∷ []) (runs C Λ En body.t-28 (atRet En Post))
+      after4 : (u1 : Order) (r1 : Val) (is1 : Is T-Order.the-row u1 (r1 ∷ [])) (d1 : u1 ≡ Plain) (u2 : Stop) (r2 : Val) (is2 : Is T-Stop.the-row u2 (r2 ∷ [])) (d2 : u2 ≡ End) (u3 : Update) (r3 : Val) (is3 : Is T-Update.the-row u3 (r3 ∷ [])) (d3 : u3 ≡ noUpdate) (updates : List Update) (made-updates : updates ≡ replicate 8256 u3) (size-updates : length updates ≡ 8256) (u4 : Outcome) (r4 : Val) (is4 : Is T-Outcome.the-row u4 (r4 ∷ [])) (c4-permutation : List ℕ) (c4-firsts : List ℕ) (c4-starts : List ℕ) (c4-groups : List ℕ) (c4-tasks : List ℕ) (c4-top : List ℕ) (c4-words : List ℕ) (c4-floats : List Float) (c4-rows : List ℕ) (c4-updates : List Update) (c4-values : List Float) (d4 : Factors (matrix n (input-starts) (input-rows) (input-values)) cap u1 («list») u2 (record { permutation = length (permutation); firsts = length (firsts); starts = length (starts); groups = length (groups); tasks = length (tasks); top = length (top); words = length (words); floats = length (floats); rows = length (rows); updates = length (updates); values = length (values) }) (record { returned = u4; areas = record { permutation = c4-permutation; firsts = c4-firsts; starts = c4-starts; groups = c4-groups; tasks = c4-tasks; top = c4-top; words = c4-words; floats = c4-floats; rows = c4-rows; updates = c4-updates; values = c4-values } })) (same4-permutation : length c4-permutation ≡ length permutation) (same4-firsts : length c4-firsts ≡ length firsts) (same4-starts : length c4-starts ≡ length starts) (same4-groups : length c4-groups ≡ length groups) (same4-tasks : length c4-tasks ≡ length tasks) (same4-top : length c4-top ≡ length top) (same4-words : length c4-words ≡ length words) (same4-floats : length c4-floats ≡ length floats) (same4-rows : length c4-rows ≡ length rows) (same4-updates : length c4-updates ≡ length updates) (same4-values : length c4-values ≡ length values) → Sq W (‵ (ShrSlice (named 0) κ-input-starts usize .own (ref-input-starts γ-input-starts input-starts) (sliceVal (b-input-starts, o-input-starts) (length input-starts) ∷ [])) ∷ ‵ (ShrSlice (named 1) κ-input-rows usize .own (ref-input-rows γ-input-rows input-rows) (sliceVal (b-input-rows, o-input-rows) (length input-rows) ∷ [])) ∷ ‵ (ShrSlice (named 2) κ-input-values f64 .own (ref-input-values γ-input-values input-values) (sliceVal (b-input-values, o-input-values) (length input-values) ∷ [])) ∷ ‵ (ShrSlice (named 3) κ-list usize .own (ref-list γ-list «list») (sliceVal (b-list, o-list) (length «list») ∷ [])) ∷ ‵ (MutSlice (named 4) κ-permutation usize .own (ref-permutation γ-permutation c4-permutation) (sliceVal (b-permutation, o-permutation) (length permutation) ∷ [])) ∷ ‵ (MutSlice (named 5) κ-firsts usize .own (ref-firsts γ-firsts c4-firsts) (sliceVal (b-firsts, o-firsts) (length firsts) ∷ [])) ∷ ‵ (MutSlice (named 6) κ-starts usize .own (ref-starts γ-starts c4-starts) (sliceVal (b-starts, o-starts) (length starts) ∷ [])) ∷ ‵ (MutSlice (named 7) κ-groups usize .own (ref-groups γ-groups c4-groups) (sliceVal (b-groups, o-groups) (length groups) ∷ [])) ∷ ‵ (MutSlice (named 8) κ-tasks usize .own (ref-tasks γ-tasks c4-tasks) (sliceVal (b-tasks, o-tasks) (length tasks) ∷ [])) ∷ ‵ (MutSlice (named 9) κ-top usize .own (ref-top γ-top c4-top) (sliceVal (b-top, o-top) (length top) ∷ [])) ∷ ‵ (MutSlice (named 10) κ-words usize .own (ref-words γ-words c4-words) (sliceVal (b-words, o-words) (length words) ∷ [])) ∷ ‵ (MutSlice (named 11) κ-floats f64 .own (ref-floats γ-floats c4-floats) (sliceVal (b-floats, o-floats) (length floats) ∷ [])) ∷ ‵ (MutSlice (named 12) κ-rows usize .own (ref-rows γ-rows c4-rows) (sliceVal (b-rows, o-rows) (length rows) ∷ [])) ∷ ‵ (MutSlice (named 13) κ-values f64 .own (ref-values γ-values c4-values) (sliceVal (b-values, o-values) (length values) ∷ [])) ∷ ‵ (MutSlice (named 14) κ-b f64 .own (ref-b γ-b b) (sliceVal (b-b, o-b) (length b) ∷ [])) ∷ ‵ (MutRef (named 15) κ-out (Array u8 2959) .own (ref-out γ-out out) (s-out ∷ [])) ∷ ‵ (flft κ-input-starts q-input-starts) ∷ ‵ (flft κ-input-rows q-input-rows) ∷ ‵ (flft κ-input-values q-input-values) ∷ ‵ (flft κ-list q-list) ∷ ‵ (flft κ-permutation q-permutation) ∷ ‵ (flft κ-firsts q-firsts) ∷ ‵ (flft κ-starts q-starts) ∷ ‵ (flft κ-groups q-groups) ∷ ‵ (flft κ-tasks q-tasks) ∷ ‵ (flft κ-top q-top) ∷ ‵ (flft κ-words q-words) ∷ ‵ (flft κ-floats q-floats) ∷ ‵ (flft κ-rows q-rows) ∷ ‵ (flft κ-values q-values) ∷ ‵ (flft κ-b q-b) ∷ ‵ (flft κ-out q-out) ∷ ‵ (froom ty0 l0 0) ∷ ‵ (fat fullShare ty1 l1 0 (vint w64 n)) ∷ ‵ (fat fullShare ty2 l2 0 s-input-starts) ∷ ‵ (fat fullShare ty3 l3 0 s-input-rows) ∷ ‵ (fat fullShare ty4 l4 0 s-input-values) ∷ ‵ (fat fullShare ty5 l5 0 (vint w64 cap)) ∷ ‵ (fat fullShare ty6 l6 0 s-list) ∷ ‵ (fat fullShare ty7 l7 0 s-permutation) ∷ ‵ (fat fullShare ty8 l8 0 s-firsts) ∷ ‵ (fat fullShare ty9 l9 0 s-starts) ∷ ‵ (fat fullShare ty10 l10 0 s-groups) ∷ ‵ (fat fullShare ty11 l11 0 s-tasks) ∷ ‵ (fat fullShare ty12 l12 0 s-top) ∷ ‵ (fat fullShare ty13 l13 0 s-words) ∷ ‵ (fat fullShare ty14 l14 0 s-floats) ∷ ‵ (fat fullShare ty15 l15 0 s-rows) ∷ ‵ (fat fullShare ty16 l16 0 s-values) ∷ ‵ (fat fullShare ty17 l17 0 s-b) ∷ ‵ (fat fullShare ty18 l18 0 s-out) ∷ ‵ (fat fullShare ty19 l19 0 r1) ∷ ‵ (fat fullShare ty20 l20 0 r2) ∷ ‵ (fat fullShare ty21 l21 0 r3) ∷ ‵ (Lies T-Update.the-row 8256 l22 0 c4-updates) ∷ ‵ (fat fullShare ty23 l23 0 r4) ∷ raw (Packed 𝓤 H A spare4) ∷ raw (Packed 𝓤 H A spare5) ∷ raw (Packed 𝓤 H A dying) ∷ []) (runs C Λ En body.t-28 (atRet En Post))
       after4 u1 r1 is1 d1 u2 r2 is2 d2 u3 r3 is3 d3 updates made-updates size-updates u4 r4 is4 c4-permutation c4-firsts c4-starts c4-groups c4-tasks c4-top c4-words c4-floats c4-rows c4-updates c4-values d4 same4-permutation same4-firsts same4-starts same4-groups same4-tasks same4-top same4-words same4-floats same4-rows same4-updates same4-values =
           w-move ! (57 ∷ []) $ w-unpack ! (‵ (froom ty46 l46 0) ∷ ‵ (froom ty47 l47 0) ∷ ‵ (froom ty48 l48 0) ∷ ‵ (froom ty49 l49 0) ∷ ‵ (froom ty50 l50 0) ∷ ‵ (froom ty51 l51 0) ∷ ‵ (froom ty52 l52 0) ∷ ‵ (froom ty53 l53 0) ∷ ‵ (froom ty54 l54 0) ∷ ‵ (froom ty55 l55 0) ∷ ‵ (froom ty56 l56 0) ∷ ‵ (froom ty57 l57 0) ∷ ‵ (froom ty58 l58 0) ∷ ‵ (froom ty59 l59 0) ∷ ‵ (froom ty60 l60 0) ∷ ‵ (froom ty61 l61 0) ∷ ‵ (froom ty62 l62 0) ∷ []) $
           w-move ! (17 ∷ 18 ∷ 19 ∷ 20 ∷ 24 ∷ 25 ∷ 26 ∷ 33 ∷ 34 ∷ 35 ∷ 36 ∷ 40 ∷ 41 ∷ 42 ∷ 51 ∷ 52 ∷ 53 ∷ 54 ∷ 55 ∷ 59 ∷ 60 ∷ 61 ∷ 68 ∷ 69 ∷ 70 ∷ 71 ∷ 73 ∷ 74 ∷ []) $ w-pack ! (‵ (ShrSlice (named 0) κ-input-starts usize .own (ref-input-starts γ-input-starts input-starts) (sliceVal (b-input-starts, o-input-starts) (length input-starts) ∷ [])) ∷ ‵ (ShrSlice (named 1) κ-input-rows usize .own (ref-input-rows γ-input-rows input-rows) (sliceVal (b-input-rows, o-input-rows) (length input-rows) ∷ [])) ∷ ‵ (ShrSlice (named 2) κ-input-values f64 .own (ref-input-values γ-input-values input-values) (sliceVal (b-input-values, o-input-values) (length input-values) ∷ [])) ∷ ‵ (ShrSlice (named 3) κ-list usize .own (ref-list γ-list «list») (sliceVal (b-list, o-list) (length «list») ∷ [])) ∷ ‵ (MutSlice (named 7) κ-groups usize .own (ref-groups γ-groups c4-groups) (sliceVal (b-groups, o-groups) (length groups) ∷ [])) ∷ ‵ (MutSlice (named 8) κ-tasks usize .own (ref-tasks γ-tasks c4-tasks) (sliceVal (b-tasks, o-tasks) (length tasks) ∷ [])) ∷ ‵ (MutSlice (named 9) κ-top usize .own (ref-top γ-top c4-top) (sliceVal (b-top, o-top) (length top) ∷ [])) ∷ ‵ (flft κ-input-starts q-input-starts) ∷ ‵ (flft κ-input-rows q-input-rows) ∷ ‵ (flft κ-input-values q-input-values) ∷ ‵ (flft κ-list q-list) ∷ ‵ (flft κ-groups q-groups) ∷ ‵ (flft κ-tasks q-tasks) ∷ ‵ (flft κ-top q-top) ∷ ‵ (fat fullShare ty2 l2 0 s-input-starts) ∷ ‵ (fat fullShare ty3 l3 0 s-input-rows) ∷ ‵ (fat fullShare ty4 l4 0 s-input-values) ∷ ‵ (fat fullShare ty5 l5 0 (vint w64 cap)) ∷ ‵ (fat fullShare ty6 l6 0 s-list) ∷ ‵ (fat fullShare ty10 l10 0 s-groups) ∷ ‵ (fat fullShare ty11 l11 0 s-tasks) ∷ ‵ (fat fullShare ty12 l12 0 s-top) ∷ ‵ (fat fullShare ty19 l19 0 r1) ∷ ‵ (fat fullShare ty20 l20 0 r2) ∷ ‵ (fat fullShare ty21 l21 0 r3) ∷ ‵ (Lies T-Update.the-row 8256 l22 0 c4-updates) ∷ raw (Packed 𝓤 H A spare4) ∷ raw (Packed 𝓤 H A dying) ∷ []) $
@@ -508,7 +508,7 @@ module _ {M : Type 1} (𝓤 : URA M) (H : Heap 𝓤) (A : Atoms 𝓤) (W : Given
           use2 W (raw (C-answer 𝓤 H A mem run .pre (((ν5-1 ∷ [], (ν5-2 ∷ [], (ν5-3 ∷ [], (ν5-4 ∷ [], (ν5-5 ∷ [], (ν5-6 ∷ [], (ν5-7 ∷ [], (ν5-8 ∷ [], (ν5-9 ∷ [], tt))))))))), (fullShare, (fullShare, (fullShare, (fullShare, (fullShare, (fullShare, (fullShare, (fullShare, (fullShare, tt))))))))), tt, (u4, (ref-permutation δ5-1 c4-permutation, (ref-firsts δ5-2 c4-firsts, (ref-starts δ5-3 c4-starts, (ref-rows δ5-4 c4-rows, (ref-values δ5-5 c4-values, (ref-words δ5-6 c4-words, (ref-floats δ5-7 c4-floats, (ref-b δ5-8 b, (ref-out δ5-9 out, tt)))))))))), (r4 ∷ [], (s-permutation ∷ [], (s-firsts ∷ [], (s-starts ∷ [], (s-rows ∷ [], (s-values ∷ [], (s-words ∷ [], (s-floats ∷ [], (s-b ∷ [], (s-out ∷ [], tt))))))))))), tt))) (asked5 u1 r1 is1 d1 u2 r2 is2 d2 u3 r3 is3 d3 updates made-updates size-updates u4 r4 is4 c4-permutation c4-firsts c4-starts c4-groups c4-tasks c4-top c4-words c4-floats c4-rows c4-updates c4-values d4 same4-permutation same4-firsts same4-starts same4-groups same4-tasks same4-top same4-words same4-floats same4-rows same4-updates same4-values ν5-1 δ5-1 ν5-2 δ5-2 ν5-3 δ5-3 ν5-4 δ5-4 ν5-5 δ5-5 ν5-6 δ5-6 ν5-7 δ5-7 ν5-8 δ5-8 ν5-9 δ5-9) $
           w-calls-at ! fm (C-answer 𝓤 H A mem run) known-answer (((ν5-1 ∷ [], (ν5-2 ∷ [], (ν5-3 ∷ [], (ν5-4 ∷ [], (ν5-5 ∷ [], (ν5-6 ∷ [], (ν5-7 ∷ [], (ν5-8 ∷ [], (ν5-9 ∷ [], tt))))))))), (fullShare, (fullShare, (fullShare, (fullShare, (fullShare, (fullShare, (fullShare, (fullShare, (fullShare, tt))))))))), tt, (u4, (ref-permutation δ5-1 c4-permutation, (ref-firsts δ5-2 c4-firsts, (ref-starts δ5-3 c4-starts, (ref-rows δ5-4 c4-rows, (ref-values δ5-5 c4-values, (ref-words δ5-6 c4-words, (ref-floats δ5-7 c4-floats, (ref-b δ5-8 b, (ref-out δ5-9 out, tt)))))))))), (r4 ∷ [], (s-permutation ∷ [], (s-firsts ∷ [], (s-starts ∷ [], (s-rows ∷ [], (s-values ∷ [], (s-words ∷ [], (s-floats ∷ [], (s-b ∷ [], (s-out ∷ [], tt))))))))))), tt) (w-and-then ! (w-load ! (w-from ! (w-stop !)) (w-look ! 39 refl)) (w-and-then ! (w-load ! (w-from ! (w-stop !)) (w-look ! 12 refl)) (w-and-then ! (w-load ! (w-from ! (w-stop !)) (w-look ! 14 refl)) (w-and-then ! (w-load ! (w-from ! (w-stop !)) (w-look ! 16 refl)) (w-and-then ! (w-load ! (w-from ! (w-stop !)) (w-look ! 18 refl)) (w-and-then ! (w-load ! (w-from ! (w-stop !)) (w-look ! 20 refl)) (w-and-then ! (w-load ! (w-from ! (w-stop !)) (w-look ! 22 refl)) (w-and-then ! (w-load ! (w-from ! (w-stop !)) (w-look ! 24 refl)) (w-and-then ! (w-load ! (w-from ! (w-stop !)) (w-look ! 26 refl)) (w-and-then ! (w-load ! (w-from ! (w-stop !)) (w-look ! 27 refl)) (w-no-more !))))))))))) (λ r5.
           use1 W (later (some (λ (u′ : ℕ). ((‵ (flft (ν5-1 ∷ []) fullShare) ⊛ ‵ (flft (ν5-2 ∷ []) fullShare) ⊛ ‵ (flft (ν5-3 ∷ []) fullShare) ⊛ ‵ (flft (ν5-4 ∷ []) fullShare) ⊛ ‵ (flft (ν5-5 ∷ []) fullShare) ⊛ ‵ (flft (ν5-6 ∷ []) fullShare) ⊛ ‵ (flft (ν5-7 ∷ []) fullShare) ⊛ ‵ (flft (ν5-8 ∷ []) fullShare) ⊛ ‵ (flft (ν5-9 ∷ []) fullShare) ⊛ ‵ ftrue) ⊛ ‵ (usize .own u′ (r5 ∷ []))) ⊛ raw (ensured 𝓤 H A f-answer.ended (f-answer.clauses 𝓤 H A mem run) (ν5-1 ∷ [], (ν5-2 ∷ [], (ν5-3 ∷ [], (ν5-4 ∷ [], (ν5-5 ∷ [], (ν5-6 ∷ [], (ν5-7 ∷ [], (ν5-8 ∷ [], (ν5-9 ∷ [], tt))))))))) (u4, (ref-permutation δ5-1 c4-permutation, (ref-firsts δ5-2 c4-firsts, (ref-starts δ5-3 c4-starts, (ref-rows δ5-4 c4-rows, (ref-values δ5-5 c4-values, (ref-words δ5-6 c4-words, (ref-floats δ5-7 c4-floats, (ref-b δ5-8 b, (ref-out δ5-9 out, tt)))))))))) tt u′)))) (id⊢ 𝓤 _) $ w-await ! tt $ w-pick ! (λ u5.
-          w-split ! $ w-move ! (1 ∷ []) $ use1 W (some (λ (zs5 : Unit {0} × (Unit {0} × (Unit {0} × (Unit {0} × (Unit {0} × (Unit {0} × (List ℕ × (List Float × (List Float × (List ℕ × Unit {0})))))))))). ‵ (lasts f-answer.ended (ν5-1 ∷ [], (ν5-2 ∷ [], (ν5-3 ∷ [], (ν5-4 ∷ [], (ν5-5 ∷ [], (ν5-6 ∷ [], (ν5-7 ∷ [], (ν5-8 ∷ [], (ν5-9 ∷ [], tt))))))))) (u4, (ref-permutation δ5-1 c4-permutation, (ref-firsts δ5-2 c4-firsts, (ref-starts δ5-3 c4-starts, (ref-rows δ5-4 c4-rows, (ref-values δ5-5 c4-values, (ref-words δ5-6 c4-words, (ref-floats δ5-7 c4-floats, (ref-b δ5-8 b, (ref-out δ5-9 out, tt)))))))))) zs5) ⊛ raw (fact 𝓤 (((j : Frames) → Made j u4 (lent (c4-permutation) (c4-firsts) (c4-starts) (c4-rows) (c4-values)) (b) (length (c4-words)) (length (c4-floats)) → Wrote (written (whole j)) u5 (out) ((zs5 .1 .1 .1 .1 .1 .1 .1 .1 .1 .0))))))) (id⊢ 𝓤 _) $ w-pick ! (λ zs5. w-split ! $ w-move ! (1 ∷ []) $ w-heard ! (((j : Frames) → Made j u4 (lent (c4-permutation) (c4-firsts) (c4-starts) (c4-rows) (c4-values)) (b) (length (c4-words)) (length (c4-floats)) → Wrote (written (whole j)) u5 (out) ((zs5 .1 .1 .1 .1 .1 .1 .1 .1 .1 .0)))) (λ d5.
+          w-split ! $ w-move ! (1 ∷ []) $ use1 W (some (λ (zs5 : Unit {0} × (Unit {0} × (Unit {0} × (Unit {0} × (Unit {0} × (Unit {0} × (List ℕ × (List Float × (List Float × (List ℕ × Unit {0})))))))))). ‵ (lasts f-answer.ended (ν5-1 ∷ [], (ν5-2 ∷ [], (ν5-3 ∷ [], (ν5-4 ∷ [], (ν5-5 ∷ [], (ν5-6 ∷ [], (ν5-7 ∷ [], (ν5-8 ∷ [], (ν5-9 ∷ [], tt))))))))) (u4, (ref-permutation δ5-1 c4-permutation, (ref-firsts δ5-2 c4-firsts, (ref-starts δ5-3 c4-starts, (ref-rows δ5-4 c4-rows, (ref-values δ5-5 c4-values, (ref-words δ5-6 c4-words, (ref-floats δ5-7 c4-floats, (ref-b δ5-8 b, (ref-out δ5-9 out, tt)))))))))) zs5) ⊛ raw (fact 𝓤 (((j : Frames) → Made j u4 (lent (c4-permutation) (c4-firsts) (c4-starts) (c4-rows) (c4-values)) (b) (length (c4-words)) (length (c4-floats)) → record { out = (zs5 .1 .1 .1 .1 .1 .1 .1 .1 .1 .0); bytes = u5 } ≡ answerIn (written (whole j)) (out)))))) (id⊢ 𝓤 _) $ w-pick ! (λ zs5. w-split ! $ w-move ! (1 ∷ []) $ w-heard ! (((j : Frames) → Made j u4 (lent (c4-permutation) (c4-firsts) (c4-starts) (c4-rows) (c4-values)) (b) (length (c4-words)) (length (c4-floats)) → record { out = (zs5 .1 .1 .1 .1 .1 .1 .1 .1 .1 .0); bytes = u5 } ≡ answerIn (written (whole j)) (out))) (λ d5.
           w-past ! $ w-past ! $ w-past ! $ w-past ! $ w-past ! $ w-past ! $ w-last ! (λ same5-words. w-move ! (1 ∷ []) $ w-last ! (λ same5-floats. w-move ! (1 ∷ []) $ w-last ! (λ same5-b. w-move ! (1 ∷ []) $ w-fsplit ! $ w-move ! (1 ∷ []) $ w-drop ! $
           w-move ! (4 ∷ []) $ w-split ! $ w-move ! (1 ∷ []) $ w-peeks ! usize (Is usize) (shows 𝓤 H A usize) u5 (r5 ∷ []) (λ is5. w-land ! (w-from ! (w-stop !)) (w-init ! 33 refl (uint-lawful 𝓤 H A W w64 .typed u5 _ is5 .0)) $
           w-drop ! $ w-move ! (0 ∷ 13 ∷ []) $ w-shown ! tt usize κ-permutation q-permutation γ-permutation b-permutation o-permutation (named 4) (named 0) c4-permutation (length permutation) same4-permutation ν5-1 room-permutation $
@@ -567,7 +567,7 @@ module _ {M : Type 1} (𝓤 : URA M) (H : Heap 𝓤) (A : Atoms 𝓤) (W : Given
           use2 W (raw (C-factor 𝓤 H A mem run .pre (((κ-input-starts, (κ-input-rows, (κ-input-values, (κ-list, (ν4-8 ∷ [], (ν4-9 ∷ [], (ν4-10 ∷ [], (ν4-11 ∷ [], (ν4-12 ∷ [], (ν4-13 ∷ [], (ν4-14 ∷ [], (ν4-15 ∷ [], (ν4-16 ∷ [], (ν4-17 ∷ [], (ν4-18 ∷ [], tt))))))))))))))), (q-input-starts, (q-input-rows, (q-input-values, (q-list, (fullShare, (fullShare, (fullShare, (fullShare, (fullShare, (fullShare, (fullShare, (fullShare, (fullShare, (fullShare, (fullShare, tt))))))))))))))), tt, (n, (ref-input-starts γ-input-starts input-starts, (ref-input-rows γ-input-rows input-rows, (ref-input-values γ-input-values input-values, (cap, (u1, (ref-list γ-list «list», (u2, (ref-permutation δ4-8 permutation, (ref-firsts δ4-9 firsts, (ref-starts δ4-10 starts, (ref-groups δ4-11 groups, (ref-tasks δ4-12 tasks, (ref-top δ4-13 top, (ref-words δ4-14 words, (ref-floats δ4-15 floats, (ref-rows δ4-16 rows, (ref-updates l22 δ4-17 updates, (ref-values δ4-18 values, tt))))))))))))))))))), (vint w64 n ∷ [], (s-input-starts ∷ [], (s-input-rows ∷ [], (s-input-values ∷ [], (vint w64 cap ∷ [], (r1 ∷ [], (s-list ∷ [], (r2 ∷ [], (s-permutation ∷ [], (s-firsts ∷ [], (s-starts ∷ [], (s-groups ∷ [], (s-tasks ∷ [], (s-top ∷ [], (s-words ∷ [], (s-floats ∷ [], (s-rows ∷ [], (sliceVal (l22, 0) (length updates) ∷ [], (s-values ∷ [], tt)))))))))))))))))))), tt))) (asked4 u1 r1 is1 d1 u2 r2 is2 d2 u3 r3 is3 d3 updates made-updates size-updates l22 ν4-8 δ4-8 ν4-9 δ4-9 ν4-10 δ4-10 ν4-11 δ4-11 ν4-12 δ4-12 ν4-13 δ4-13 ν4-14 δ4-14 ν4-15 δ4-15 ν4-16 δ4-16 ν4-17 δ4-17 ν4-18 δ4-18) $
           w-calls-at ! fm (C-factor 𝓤 H A mem run) known-factor (((κ-input-starts, (κ-input-rows, (κ-input-values, (κ-list, (ν4-8 ∷ [], (ν4-9 ∷ [], (ν4-10 ∷ [], (ν4-11 ∷ [], (ν4-12 ∷ [], (ν4-13 ∷ [], (ν4-14 ∷ [], (ν4-15 ∷ [], (ν4-16 ∷ [], (ν4-17 ∷ [], (ν4-18 ∷ [], tt))))))))))))))), (q-input-starts, (q-input-rows, (q-input-values, (q-list, (fullShare, (fullShare, (fullShare, (fullShare, (fullShare, (fullShare, (fullShare, (fullShare, (fullShare, (fullShare, (fullShare, tt))))))))))))))), tt, (n, (ref-input-starts γ-input-starts input-starts, (ref-input-rows γ-input-rows input-rows, (ref-input-values γ-input-values input-values, (cap, (u1, (ref-list γ-list «list», (u2, (ref-permutation δ4-8 permutation, (ref-firsts δ4-9 firsts, (ref-starts δ4-10 starts, (ref-groups δ4-11 groups, (ref-tasks δ4-12 tasks, (ref-top δ4-13 top, (ref-words δ4-14 words, (ref-floats δ4-15 floats, (ref-rows δ4-16 rows, (ref-updates l22 δ4-17 updates, (ref-values δ4-18 values, tt))))))))))))))))))), (vint w64 n ∷ [], (s-input-starts ∷ [], (s-input-rows ∷ [], (s-input-values ∷ [], (vint w64 cap ∷ [], (r1 ∷ [], (s-list ∷ [], (r2 ∷ [], (s-permutation ∷ [], (s-firsts ∷ [], (s-starts ∷ [], (s-groups ∷ [], (s-tasks ∷ [], (s-top ∷ [], (s-words ∷ [], (s-floats ∷ [], (s-rows ∷ [], (sliceVal (l22, 0) (length updates) ∷ [], (s-values ∷ [], tt)))))))))))))))))))), tt) (w-and-then ! (w-load ! (w-from ! (w-stop !)) (w-look ! 40 refl)) (w-and-then ! (w-load ! (w-from ! (w-stop !)) (w-look ! 41 refl)) (w-and-then ! (w-load ! (w-from ! (w-stop !)) (w-look ! 42 refl)) (w-and-then ! (w-load ! (w-from ! (w-stop !)) (w-look ! 43 refl)) (w-and-then ! (w-load ! (w-from ! (w-stop !)) (w-look ! 44 refl)) (w-and-then ! (w-load ! (w-from ! (w-stop !)) (w-look ! 56 refl)) (w-and-then ! (w-load ! (w-from ! (w-stop !)) (w-look ! 45 refl)) (w-and-then ! (w-load ! (w-from ! (w-stop !)) (w-look ! 57 refl)) (w-and-then ! (w-load ! (w-from ! (w-stop !)) (w-look ! 18 refl)) (w-and-then ! (w-load ! (w-from ! (w-stop !)) (w-look ! 20 refl)) (w-and-then ! (w-load ! (w-from ! (w-stop !)) (w-look ! 22 refl)) (w-and-then ! (w-load ! (w-from ! (w-stop !)) (w-look ! 24 refl)) (w-and-then ! (w-load ! (w-from ! (w-stop !)) (w-look ! 26 refl)) (w-and-then ! (w-load ! (w-from ! (w-stop !)) (w-look ! 28 refl)) (w-and-then ! (w-load ! (w-from ! (w-stop !)) (w-look ! 30 refl)) (w-and-then ! (w-load ! (w-from ! (w-stop !)) (w-look ! 32 refl)) (w-and-then ! (w-load ! (w-from ! (w-stop !)) (w-look ! 34 refl)) (w-and-then ! (w-load ! (w-from ! (w-stop !)) (w-look ! 36 refl)) (w-and-then ! (w-load ! (w-from ! (w-stop !)) (w-look ! 38 refl)) (w-no-more !)))))))))))))))))))) (λ r4.
           use1 W (later (some (λ (u′ : Outcome). ((‵ (flft (κ-input-starts) q-input-starts) ⊛ ‵ (flft (κ-input-rows) q-input-rows) ⊛ ‵ (flft (κ-input-values) q-input-values) ⊛ ‵ (flft (κ-list) q-list) ⊛ ‵ (flft (ν4-8 ∷ []) fullShare) ⊛ ‵ (flft (ν4-9 ∷ []) fullShare) ⊛ ‵ (flft (ν4-10 ∷ []) fullShare) ⊛ ‵ (flft (ν4-11 ∷ []) fullShare) ⊛ ‵ (flft (ν4-12 ∷ []) fullShare) ⊛ ‵ (flft (ν4-13 ∷ []) fullShare) ⊛ ‵ (flft (ν4-14 ∷ []) fullShare) ⊛ ‵ (flft (ν4-15 ∷ []) fullShare) ⊛ ‵ (flft (ν4-16 ∷ []) fullShare) ⊛ ‵ (flft (ν4-17 ∷ []) fullShare) ⊛ ‵ (flft (ν4-18 ∷ []) fullShare) ⊛ ‵ ftrue) ⊛ ‵ (T-Outcome.the-row .own u′ (r4 ∷ []))) ⊛ raw (ensured 𝓤 H A f-factor.ended (f-factor.clauses 𝓤 H A mem run) (κ-input-starts, (κ-input-rows, (κ-input-values, (κ-list, (ν4-8 ∷ [], (ν4-9 ∷ [], (ν4-10 ∷ [], (ν4-11 ∷ [], (ν4-12 ∷ [], (ν4-13 ∷ [], (ν4-14 ∷ [], (ν4-15 ∷ [], (ν4-16 ∷ [], (ν4-17 ∷ [], (ν4-18 ∷ [], tt))))))))))))))) (n, (ref-input-starts γ-input-starts input-starts, (ref-input-rows γ-input-rows input-rows, (ref-input-values γ-input-values input-values, (cap, (u1, (ref-list γ-list «list», (u2, (ref-permutation δ4-8 permutation, (ref-firsts δ4-9 firsts, (ref-starts δ4-10 starts, (ref-groups δ4-11 groups, (ref-tasks δ4-12 tasks, (ref-top δ4-13 top, (ref-words δ4-14 words, (ref-floats δ4-15 floats, (ref-rows δ4-16 rows, (ref-updates l22 δ4-17 updates, (ref-values δ4-18 values, tt))))))))))))))))))) tt u′)))) (id⊢ 𝓤 _) $ w-await ! tt $ w-pick ! (λ u4.
-          w-split ! $ w-move ! (1 ∷ []) $ use1 W (some (λ (zs4 : Unit {0} × (Unit {0} × (Unit {0} × (Unit {0} × (Unit {0} × (Unit {0} × (Unit {0} × (Unit {0} × (List ℕ × (List ℕ × (List ℕ × (List ℕ × (List ℕ × (List ℕ × (List ℕ × (List Float × (List ℕ × (List Update × (List Float × Unit {0}))))))))))))))))))). ‵ (lasts f-factor.ended (κ-input-starts, (κ-input-rows, (κ-input-values, (κ-list, (ν4-8 ∷ [], (ν4-9 ∷ [], (ν4-10 ∷ [], (ν4-11 ∷ [], (ν4-12 ∷ [], (ν4-13 ∷ [], (ν4-14 ∷ [], (ν4-15 ∷ [], (ν4-16 ∷ [], (ν4-17 ∷ [], (ν4-18 ∷ [], tt))))))))))))))) (n, (ref-input-starts γ-input-starts input-starts, (ref-input-rows γ-input-rows input-rows, (ref-input-values γ-input-values input-values, (cap, (u1, (ref-list γ-list «list», (u2, (ref-permutation δ4-8 permutation, (ref-firsts δ4-9 firsts, (ref-starts δ4-10 starts, (ref-groups δ4-11 groups, (ref-tasks δ4-12 tasks, (ref-top δ4-13 top, (ref-words δ4-14 words, (ref-floats δ4-15 floats, (ref-rows δ4-16 rows, (ref-updates l22 δ4-17 updates, (ref-values δ4-18 values, tt))))))))))))))))))) zs4) ⊛ raw (fact 𝓤 (FactorSettles (factor (matrix n (input-starts) (input-rows) (input-values)) cap u1 («list») u2 (lentAll (length (permutation)) (length (firsts)) (length (starts)) (length (groups)) (length (tasks)) (length (top)) (length (words)) (length (floats)) (length (rows)) (length (updates)) (length (values)))) u4 ((zs4 .1 .1 .1 .1 .1 .1 .1 .1 .0)) ((zs4 .1 .1 .1 .1 .1 .1 .1 .1 .1 .0)) ((zs4 .1 .1 .1 .1 .1 .1 .1 .1 .1 .1 .0)) ((zs4 .1 .1 .1 .1 .1 .1 .1 .1 .1 .1 .1 .0)) ((zs4 .1 .1 .1 .1 .1 .1 .1 .1 .1 .1 .1 .1 .0)) ((zs4 .1 .1 .1 .1 .1 .1 .1 .1 .1 .1 .1 .1 .1 .0)) ((zs4 .1 .1 .1 .1 .1 .1 .1 .1 .1 .1 .1 .1 .1 .1 .0)) ((zs4 .1 .1 .1 .1 .1 .1 .1 .1 .1 .1 .1 .1 .1 .1 .1 .0)) ((zs4 .1 .1 .1 .1 .1 .1 .1 .1 .1 .1 .1 .1 .1 .1 .1 .1 .0)) ((zs4 .1 .1 .1 .1 .1 .1 .1 .1 .1 .1 .1 .1 .1 .1 .1 .1 .1 .0)) ((zs4 .1 .1 .1 .1 .1 .1 .1 .1 .1 .1 .1 .1 .1 .1 .1 .1 .1 .1 .0)))))) (id⊢ 𝓤 _) $ w-pick ! (λ zs4. w-split ! $ w-move ! (1 ∷ []) $ w-heard ! (FactorSettles (factor (matrix n (input-starts) (input-rows) (input-values)) cap u1 («list») u2 (lentAll (length (permutation)) (length (firsts)) (length (starts)) (length (groups)) (length (tasks)) (length (top)) (length (words)) (length (floats)) (length (rows)) (length (updates)) (length (values)))) u4 ((zs4 .1 .1 .1 .1 .1 .1 .1 .1 .0)) ((zs4 .1 .1 .1 .1 .1 .1 .1 .1 .1 .0)) ((zs4 .1 .1 .1 .1 .1 .1 .1 .1 .1 .1 .0)) ((zs4 .1 .1 .1 .1 .1 .1 .1 .1 .1 .1 .1 .0)) ((zs4 .1 .1 .1 .1 .1 .1 .1 .1 .1 .1 .1 .1 .0)) ((zs4 .1 .1 .1 .1 .1 .1 .1 .1 .1 .1 .1 .1 .1 .0)) ((zs4 .1 .1 .1 .1 .1 .1 .1 .1 .1 .1 .1 .1 .1 .1 .0)) ((zs4 .1 .1 .1 .1 .1 .1 .1 .1 .1 .1 .1 .1 .1 .1 .1 .0)) ((zs4 .1 .1 .1 .1 .1 .1 .1 .1 .1 .1 .1 .1 .1 .1 .1 .1 .0)) ((zs4 .1 .1 .1 .1 .1 .1 .1 .1 .1 .1 .1 .1 .1 .1 .1 .1 .1 .0)) ((zs4 .1 .1 .1 .1 .1 .1 .1 .1 .1 .1 .1 .1 .1 .1 .1 .1 .1 .1 .0))) (λ d4.
+          w-split ! $ w-move ! (1 ∷ []) $ use1 W (some (λ (zs4 : Unit {0} × (Unit {0} × (Unit {0} × (Unit {0} × (Unit {0} × (Unit {0} × (Unit {0} × (Unit {0} × (List ℕ × (List ℕ × (List ℕ × (List ℕ × (List ℕ × (List ℕ × (List ℕ × (List Float × (List ℕ × (List Update × (List Float × Unit {0}))))))))))))))))))). ‵ (lasts f-factor.ended (κ-input-starts, (κ-input-rows, (κ-input-values, (κ-list, (ν4-8 ∷ [], (ν4-9 ∷ [], (ν4-10 ∷ [], (ν4-11 ∷ [], (ν4-12 ∷ [], (ν4-13 ∷ [], (ν4-14 ∷ [], (ν4-15 ∷ [], (ν4-16 ∷ [], (ν4-17 ∷ [], (ν4-18 ∷ [], tt))))))))))))))) (n, (ref-input-starts γ-input-starts input-starts, (ref-input-rows γ-input-rows input-rows, (ref-input-values γ-input-values input-values, (cap, (u1, (ref-list γ-list «list», (u2, (ref-permutation δ4-8 permutation, (ref-firsts δ4-9 firsts, (ref-starts δ4-10 starts, (ref-groups δ4-11 groups, (ref-tasks δ4-12 tasks, (ref-top δ4-13 top, (ref-words δ4-14 words, (ref-floats δ4-15 floats, (ref-rows δ4-16 rows, (ref-updates l22 δ4-17 updates, (ref-values δ4-18 values, tt))))))))))))))))))) zs4) ⊛ raw (fact 𝓤 (Factors (matrix n (input-starts) (input-rows) (input-values)) cap u1 («list») u2 (record { permutation = length (permutation); firsts = length (firsts); starts = length (starts); groups = length (groups); tasks = length (tasks); top = length (top); words = length (words); floats = length (floats); rows = length (rows); updates = length (updates); values = length (values) }) (record { returned = u4; areas = record { permutation = (zs4 .1 .1 .1 .1 .1 .1 .1 .1 .0); firsts = (zs4 .1 .1 .1 .1 .1 .1 .1 .1 .1 .0); starts = (zs4 .1 .1 .1 .1 .1 .1 .1 .1 .1 .1 .0); groups = (zs4 .1 .1 .1 .1 .1 .1 .1 .1 .1 .1 .1 .0); tasks = (zs4 .1 .1 .1 .1 .1 .1 .1 .1 .1 .1 .1 .1 .0); top = (zs4 .1 .1 .1 .1 .1 .1 .1 .1 .1 .1 .1 .1 .1 .0); words = (zs4 .1 .1 .1 .1 .1 .1 .1 .1 .1 .1 .1 .1 .1 .1 .0); floats = (zs4 .1 .1 .1 .1 .1 .1 .1 .1 .1 .1 .1 .1 .1 .1 .1 .0); rows = (zs4 .1 .1 .1 .1 .1 .1 .1 .1 .1 .1 .1 .1 .1 .1 .1 .1 .0); updates = (zs4 .1 .1 .1 .1 .1 .1 .1 .1 .1 .1 .1 .1 .1 .1 .1 .1 .1 .0); values = (zs4 .1 .1 .1 .1 .1 .1 .1 .1 .1 .1 .1 .1 .1 .1 .1 .1 .1 .1 .0) } }))))) (id⊢ 𝓤 _) $ w-pick ! (λ zs4. w-split ! $ w-move ! (1 ∷ []) $ w-heard ! (Factors (matrix n (input-starts) (input-rows) (input-values)) cap u1 («list») u2 (record { permutation = length (permutation); firsts = length (firsts); starts = length (starts); groups = length (groups); tasks = length (tasks); top = length (top); words = length (words); floats = length (floats); rows = length (rows); updates = length (updates); values = length (values) }) (record { returned = u4; areas = record { permutation = (zs4 .1 .1 .1 .1 .1 .1 .1 .1 .0); firsts = (zs4 .1 .1 .1 .1 .1 .1 .1 .1 .1 .0); starts = (zs4 .1 .1 .1 .1 .1 .1 .1 .1 .1 .1 .0); groups = (zs4 .1 .1 .1 .1 .1 .1 .1 .1 .1 .1 .1 .0); tasks = (zs4 .1 .1 .1 .1 .1 .1 .1 .1 .1 .1 .1 .1 .0); top = (zs4 .1 .1 .1 .1 .1 .1 .1 .1 .1 .1 .1 .1 .1 .0); words = (zs4 .1 .1 .1 .1 .1 .1 .1 .1 .1 .1 .1 .1 .1 .1 .0); floats = (zs4 .1 .1 .1 .1 .1 .1 .1 .1 .1 .1 .1 .1 .1 .1 .1 .0); rows = (zs4 .1 .1 .1 .1 .1 .1 .1 .1 .1 .1 .1 .1 .1 .1 .1 .1 .0); updates = (zs4 .1 .1 .1 .1 .1 .1 .1 .1 .1 .1 .1 .1 .1 .1 .1 .1 .1 .0); values = (zs4 .1 .1 .1 .1 .1 .1 .1 .1 .1 .1 .1 .1 .1 .1 .1 .1 .1 .1 .0) } })) (λ d4.
           w-past ! $ w-past ! $ w-past ! $ w-past ! $ w-past ! $ w-past ! $ w-past ! $ w-past ! $ w-last ! (λ same4-permutation. w-move ! (1 ∷ []) $ w-last ! (λ same4-firsts. w-move ! (1 ∷ []) $ w-last ! (λ same4-starts. w-move ! (1 ∷ []) $ w-last ! (λ same4-groups. w-move ! (1 ∷ []) $ w-last ! (λ same4-tasks. w-move ! (1 ∷ []) $ w-last ! (λ same4-top. w-move ! (1 ∷ []) $ w-last ! (λ same4-words. w-move ! (1 ∷ []) $ w-last ! (λ same4-floats. w-move ! (1 ∷ []) $ w-last ! (λ same4-rows. w-move ! (1 ∷ []) $ w-last ! (λ same4-updates. w-move ! (1 ∷ []) $ w-last ! (λ same4-values. w-move ! (1 ∷ []) $ w-drop ! $
           w-move ! (11 ∷ []) $ w-split ! $ w-move ! (1 ∷ []) $ w-peeks ! T-Outcome.the-row (Is T-Outcome.the-row) (shows 𝓤 H A T-Outcome.the-row) u4 (r4 ∷ []) (λ is4. w-land ! (w-from ! (w-stop !)) (w-init ! 70 refl (LL.lawful T-Outcome.the-type L-Outcome.the-laws 𝓤 H A W .typed u4 _ is4 .0)) $
           w-drop ! $ w-split ! $ w-move ! (1 ∷ []) $ w-split ! $ w-move ! (1 ∷ []) $ w-split ! $ w-move ! (1 ∷ []) $ w-split ! $ w-move ! (1 ∷ 26 ∷ 15 ∷ []) $ w-back ! tt usize κ-permutation q-permutation γ-permutation b-permutation o-permutation (named 4) (named 4) permutation (length permutation) refl ν4-8 δ4-8 (zs4 .1 .1 .1 .1 .1 .1 .1 .1 .0) room-permutation same4-permutation $
@@ -664,12 +664,12 @@ module _ {M : Type 1} (𝓤 : URA M) (H : Heap 𝓤) (A : Atoms 𝓤) (W : Given
         w-alloc1 ! (λ l0. w-alloc1 ! (λ l1. w-alloc1 ! (λ l2. w-alloc1 ! (λ l3. w-alloc1 ! (λ l4. w-alloc1 ! (λ l5. w-alloc1 ! (λ l6. w-alloc1 ! (λ l7. w-alloc1 ! (λ l8. w-alloc1 ! (λ l9. w-alloc1 ! (λ l10. w-alloc1 ! (λ l11. w-alloc1 ! (λ l12. w-alloc1 ! (λ l13. w-alloc1 ! (λ l14. w-alloc1 ! (λ l15. w-alloc1 ! (λ l16. w-alloc1 ! (λ l17. w-alloc1 ! (λ l18. w-alloc1 ! (λ l19. w-alloc1 ! (λ l20. w-alloc1 ! (λ l21. w-alloc1 ! (λ l22. w-alloc1 ! (λ l23. w-alloc1 ! (λ l24. w-alloc1 ! (λ l25. w-alloc1 ! (λ l26. w-alloc1 ! (λ l27. w-alloc1 ! (λ l28. w-alloc1 ! (λ l29. w-alloc1 ! (λ l30. w-alloc1 ! (λ l31. w-alloc1 ! (λ l32. w-alloc1 ! (λ l33. w-alloc1 ! (λ l34. w-alloc1 ! (λ l35. w-alloc1 ! (λ l36. w-alloc1 ! (λ l37. w-alloc1 ! (λ l38. w-alloc1 ! (λ l39. w-alloc1 ! (λ l40. w-alloc1 ! (λ l41. w-alloc1 ! (λ l42. w-alloc1 ! (λ l43. w-alloc1 ! (λ l44. w-alloc1 ! (λ l45. w-alloc1 ! (λ l46. w-alloc1 ! (λ l47. w-alloc1 ! (λ l48. w-alloc1 ! (λ l49. w-alloc1 ! (λ l50. w-alloc1 ! (λ l51. w-alloc1 ! (λ l52. w-alloc1 ! (λ l53. w-alloc1 ! (λ l54. w-alloc1 ! (λ l55. w-alloc1 ! (λ l56. w-alloc1 ! (λ l57. w-alloc1 ! (λ l58. w-alloc1 ! (λ l59. w-alloc1 ! (λ l60. w-alloc1 ! (λ l61. w-alloc1 ! (λ l62. w-alloc0 ! $ taken l0 l1 l2 l3 l4 l5 l6 l7 l8 l9 l10 l11 l12 l13 l14 l15 l16 l17 l18 l19 l20 l21 l22 l23 l24 l25 l26 l27 l28 l29 l30 l31 l32 l33 l34 l35 l36 l37 l38 l39 l40 l41 l42 l43 l44 l45 l46 l47 l48 l49 l50 l51 l52 l53 l54 l55 l56 l57 l58 l59 l60 l61 l62)))))))))))))))))))))))))))))))))))))))))))))))))))))))))))))))
 
 module _ {M : Type 1} (𝓤 : URA M) (H : Heap 𝓤) (A : Atoms 𝓤) (W : Given 𝓤 H A) (mem : Memory → SProp 𝓤) (run : Routine → Fun 𝓤) where
-  here-walks : (𝓣 : Tables 𝓤 H) (known-plain-order : Triple 𝓤 (𝓣 .C #jobs·plain-order) (C-plain-order 𝓤 H A mem run)) (known-no-stop : Triple 𝓤 (𝓣 .C #jobs·no-stop) (C-no-stop 𝓤 H A mem run)) (known-none : Triple 𝓤 (𝓣 .C #update·none) (C-none 𝓤 H A mem run)) (known-factor : Triple 𝓤 (𝓣 .C #factor·factor) (C-factor 𝓤 H A mem run)) (known-answer : Triple 𝓤 (𝓣 .C #jobs·answer) (C-answer 𝓤 H A mem run)) → Walks 𝓤 H A here.ended stayed (WpFn 𝓤 H (𝓣 .C) (𝓣 .Λ) code.function) (here.clauses 𝓤 H A mem run)
+  here-walks : (𝓣 : Tables 𝓤 H) (known-plain-order : Triple 𝓤 (𝓣 .C #jobs·plain-order) (C-plain-order 𝓤 H A mem run)) (known-no-stop : Triple 𝓤 (𝓣 .C #jobs·no-stop) (C-no-stop 𝓤 H A mem run)) (known-none : Triple 𝓤 (𝓣 .C #update·none) (C-none 𝓤 H A mem run)) (known-factor : Triple 𝓤 (𝓣 .C #factor·factor) (C-factor 𝓤 H A mem run)) (known-answer : Triple 𝓤 (𝓣 .C #reply·answer) (C-answer 𝓤 H A mem run)) → Walks 𝓤 H A here.ended stayed (WpFn 𝓤 H (𝓣 .C) (𝓣 .Λ) code.function) (here.clauses 𝓤 H A mem run)
   here-walks 𝓣 known-plain-order known-no-stop known-none known-factor known-answer = walked 𝓤 H A here.ended stayed (here.clauses 𝓤 H A mem run) (WpFn 𝓤 H (𝓣 .C) (𝓣 .Λ) code.function) (λ κs. (uint-vals w64, (slice-vals, (slice-vals, (slice-vals, (uint-vals w64, (slice-vals, (slice-vals, (slice-vals, (slice-vals, (slice-vals, (slice-vals, (slice-vals, (slice-vals, (slice-vals, (slice-vals, (slice-vals, (slice-vals, (ptr-vals, tt))))))))))))))))))) (λ κs. (uint-tells w64, (shr-slice-tells (named 0) (κs .0) usize, (shr-slice-tells (named 1) (κs .1 .0) usize, (shr-slice-tells (named 2) (κs .1 .1 .0) f64, (uint-tells w64, (shr-slice-tells (named 3) (κs .1 .1 .1 .0) usize, (mut-slice-tells (named 4) (κs .1 .1 .1 .1 .0) usize, (mut-slice-tells (named 5) (κs .1 .1 .1 .1 .1 .0) usize, (mut-slice-tells (named 6) (κs .1 .1 .1 .1 .1 .1 .0) usize, (mut-slice-tells (named 7) (κs .1 .1 .1 .1 .1 .1 .1 .0) usize, (mut-slice-tells (named 8) (κs .1 .1 .1 .1 .1 .1 .1 .1 .0) usize, (mut-slice-tells (named 9) (κs .1 .1 .1 .1 .1 .1 .1 .1 .1 .0) usize, (mut-slice-tells (named 10) (κs .1 .1 .1 .1 .1 .1 .1 .1 .1 .1 .0) usize, (mut-slice-tells (named 11) (κs .1 .1 .1 .1 .1 .1 .1 .1 .1 .1 .1 .0) f64, (mut-slice-tells (named 12) (κs .1 .1 .1 .1 .1 .1 .1 .1 .1 .1 .1 .1 .0) usize, (mut-slice-tells (named 13) (κs .1 .1 .1 .1 .1 .1 .1 .1 .1 .1 .1 .1 .1 .0) f64, (mut-slice-tells (named 14) (κs .1 .1 .1 .1 .1 .1 .1 .1 .1 .1 .1 .1 .1 .1 .0) f64, (mut-tells (named 15) (κs .1 .1 .1 .1 .1 .1 .1 .1 .1 .1 .1 .1 .1 .1 .1 .0) (Array u8 2959), tt)))))))))))))))))))
       (λ κs qs bounds a g are. needs 𝓤 _ _ (λ pre.
       walk 𝓤 H A W mem run (a .0) (κs .0) (qs .0) (a .1 .0 .ptr .0) (a .1 .0 .ptr .1) (a .1 .0 .name) (a .1 .0 .now) (κs .1 .0) (qs .1 .0) (a .1 .1 .0 .ptr .0) (a .1 .1 .0 .ptr .1) (a .1 .1 .0 .name) (a .1 .1 .0 .now) (κs .1 .1 .0) (qs .1 .1 .0) (a .1 .1 .1 .0 .ptr .0) (a .1 .1 .1 .0 .ptr .1) (a .1 .1 .1 .0 .name) (a .1 .1 .1 .0 .now) (a .1 .1 .1 .1 .0) (κs .1 .1 .1 .0) (qs .1 .1 .1 .0) (a .1 .1 .1 .1 .1 .0 .ptr .0) (a .1 .1 .1 .1 .1 .0 .ptr .1) (a .1 .1 .1 .1 .1 .0 .name) (a .1 .1 .1 .1 .1 .0 .now) (κs .1 .1 .1 .1 .0) (qs .1 .1 .1 .1 .0) (a .1 .1 .1 .1 .1 .1 .0 .ptr .0) (a .1 .1 .1 .1 .1 .1 .0 .ptr .1) (a .1 .1 .1 .1 .1 .1 .0 .name) (a .1 .1 .1 .1 .1 .1 .0 .now) (κs .1 .1 .1 .1 .1 .0) (qs .1 .1 .1 .1 .1 .0) (a .1 .1 .1 .1 .1 .1 .1 .0 .ptr .0) (a .1 .1 .1 .1 .1 .1 .1 .0 .ptr .1) (a .1 .1 .1 .1 .1 .1 .1 .0 .name) (a .1 .1 .1 .1 .1 .1 .1 .0 .now) (κs .1 .1 .1 .1 .1 .1 .0) (qs .1 .1 .1 .1 .1 .1 .0) (a .1 .1 .1 .1 .1 .1 .1 .1 .0 .ptr .0) (a .1 .1 .1 .1 .1 .1 .1 .1 .0 .ptr .1) (a .1 .1 .1 .1 .1 .1 .1 .1 .0 .name) (a .1 .1 .1 .1 .1 .1 .1 .1 .0 .now) (κs .1 .1 .1 .1 .1 .1 .1 .0) (qs .1 .1 .1 .1 .1 .1 .1 .0) (a .1 .1 .1 .1 .1 .1 .1 .1 .1 .0 .ptr .0) (a .1 .1 .1 .1 .1 .1 .1 .1 .1 .0 .ptr .1) (a .1 .1 .1 .1 .1 .1 .1 .1 .1 .0 .name) (a .1 .1 .1 .1 .1 .1 .1 .1 .1 .0 .now) (κs .1 .1 .1 .1 .1 .1 .1 .1 .0) (qs .1 .1 .1 .1 .1 .1 .1 .1 .0) (a .1 .1 .1 .1 .1 .1 .1 .1 .1 .1 .0 .ptr .0) (a .1 .1 .1 .1 .1 .1 .1 .1 .1 .1 .0 .ptr .1) (a .1 .1 .1 .1 .1 .1 .1 .1 .1 .1 .0 .name) (a .1 .1 .1 .1 .1 .1 .1 .1 .1 .1 .0 .now) (κs .1 .1 .1 .1 .1 .1 .1 .1 .1 .0) (qs .1 .1 .1 .1 .1 .1 .1 .1 .1 .0) (a .1 .1 .1 .1 .1 .1 .1 .1 .1 .1 .1 .0 .ptr .0) (a .1 .1 .1 .1 .1 .1 .1 .1 .1 .1 .1 .0 .ptr .1) (a .1 .1 .1 .1 .1 .1 .1 .1 .1 .1 .1 .0 .name) (a .1 .1 .1 .1 .1 .1 .1 .1 .1 .1 .1 .0 .now) (κs .1 .1 .1 .1 .1 .1 .1 .1 .1 .1 .0) (qs .1 .1 .1 .1 .1 .1 .1 .1 .1 .1 .0) (a .1 .1 .1 .1 .1 .1 .1 .1 .1 .1 .1 .1 .0 .ptr .0) (a .1 .1 .1 .1 .1 .1 .1 .1 .1 .1 .1 .1 .0 .ptr .1) (a .1 .1 .1 .1 .1 .1 .1 .1 .1 .1 .1 .1 .0 .name) (a .1 .1 .1 .1 .1 .1 .1 .1 .1 .1 .1 .1 .0 .now) (κs .1 .1 .1 .1 .1 .1 .1 .1 .1 .1 .1 .0) (qs .1 .1 .1 .1 .1 .1 .1 .1 .1 .1 .1 .0) (a .1 .1 .1 .1 .1 .1 .1 .1 .1 .1 .1 .1 .1 .0 .ptr .0) (a .1 .1 .1 .1 .1 .1 .1 .1 .1 .1 .1 .1 .1 .0 .ptr .1) (a .1 .1 .1 .1 .1 .1 .1 .1 .1 .1 .1 .1 .1 .0 .name) (a .1 .1 .1 .1 .1 .1 .1 .1 .1 .1 .1 .1 .1 .0 .now) (κs .1 .1 .1 .1 .1 .1 .1 .1 .1 .1 .1 .1 .0) (qs .1 .1 .1 .1 .1 .1 .1 .1 .1 .1 .1 .1 .0) (a .1 .1 .1 .1 .1 .1 .1 .1 .1 .1 .1 .1 .1 .1 .0 .ptr .0) (a .1 .1 .1 .1 .1 .1 .1 .1 .1 .1 .1 .1 .1 .1 .0 .ptr .1) (a .1 .1 .1 .1 .1 .1 .1 .1 .1 .1 .1 .1 .1 .1 .0 .name) (a .1 .1 .1 .1 .1 .1 .1 .1 .1 .1 .1 .1 .1 .1 .0 .now) (κs .1 .1 .1 .1 .1 .1 .1 .1 .1 .1 .1 .1 .1 .0) (qs .1 .1 .1 .1 .1 .1 .1 .1 .1 .1 .1 .1 .1 .0) (a .1 .1 .1 .1 .1 .1 .1 .1 .1 .1 .1 .1 .1 .1 .1 .0 .ptr .0) (a .1 .1 .1 .1 .1 .1 .1 .1 .1 .1 .1 .1 .1 .1 .1 .0 .ptr .1) (a .1 .1 .1 .1 .1 .1 .1 .1 .1 .1 .1 .1 .1 .1 .1 .0 .name) (a .1 .1 .1 .1 .1 .1 .1 .1 .1 .1 .1 .1 .1 .1 .1 .0 .now) (κs .1 .1 .1 .1 .1 .1 .1 .1 .1 .1 .1 .1 .1 .1 .0) (qs .1 .1 .1 .1 .1 .1 .1 .1 .1 .1 .1 .1 .1 .1 .0) (a .1 .1 .1 .1 .1 .1 .1 .1 .1 .1 .1 .1 .1 .1 .1 .1 .0 .ptr .0) (a .1 .1 .1 .1 .1 .1 .1 .1 .1 .1 .1 .1 .1 .1 .1 .1 .0 .ptr .1) (a .1 .1 .1 .1 .1 .1 .1 .1 .1 .1 .1 .1 .1 .1 .1 .1 .0 .name) (a .1 .1 .1 .1 .1 .1 .1 .1 .1 .1 .1 .1 .1 .1 .1 .1 .0 .now) (κs .1 .1 .1 .1 .1 .1 .1 .1 .1 .1 .1 .1 .1 .1 .1 .0) (qs .1 .1 .1 .1 .1 .1 .1 .1 .1 .1 .1 .1 .1 .1 .1 .0) (a .1 .1 .1 .1 .1 .1 .1 .1 .1 .1 .1 .1 .1 .1 .1 .1 .1 .0 .ptr .0) (a .1 .1 .1 .1 .1 .1 .1 .1 .1 .1 .1 .1 .1 .1 .1 .1 .1 .0 .ptr .1) (a .1 .1 .1 .1 .1 .1 .1 .1 .1 .1 .1 .1 .1 .1 .1 .1 .1 .0 .name) (a .1 .1 .1 .1 .1 .1 .1 .1 .1 .1 .1 .1 .1 .1 .1 .1 .1 .0 .now) (are .0 .1) (are .1 .0 .0 .1) (are .1 .1 .0 .0 .1) (are .1 .1 .1 .0 .0 .1) (are .1 .1 .1 .1 .0 .1) (are .1 .1 .1 .1 .1 .0 .0 .1) (are .1 .1 .1 .1 .1 .1 .0 .0 .1) (are .1 .1 .1 .1 .1 .1 .1 .0 .0 .1) (are .1 .1 .1 .1 .1 .1 .1 .1 .0 .0 .1) (are .1 .1 .1 .1 .1 .1 .1 .1 .1 .0 .0 .1) (are .1 .1 .1 .1 .1 .1 .1 .1 .1 .1 .0 .0 .1) (are .1 .1 .1 .1 .1 .1 .1 .1 .1 .1 .1 .0 .0 .1) (are .1 .1 .1 .1 .1 .1 .1 .1 .1 .1 .1 .1 .0 .0 .1) (are .1 .1 .1 .1 .1 .1 .1 .1 .1 .1 .1 .1 .1 .0 .0 .1) (are .1 .1 .1 .1 .1 .1 .1 .1 .1 .1 .1 .1 .1 .1 .0 .0 .1) (are .1 .1 .1 .1 .1 .1 .1 .1 .1 .1 .1 .1 .1 .1 .1 .0 .0 .1) (are .1 .1 .1 .1 .1 .1 .1 .1 .1 .1 .1 .1 .1 .1 .1 .1 .0 .0 .1) pre 𝓣 known-plain-order known-no-stop known-none known-factor known-answer))
 
-  here-meets : (𝓣 : Tables 𝓤 H) (known-plain-order : Triple 𝓤 (𝓣 .C #jobs·plain-order) (C-plain-order 𝓤 H A mem run)) (known-no-stop : Triple 𝓤 (𝓣 .C #jobs·no-stop) (C-no-stop 𝓤 H A mem run)) (known-none : Triple 𝓤 (𝓣 .C #update·none) (C-none 𝓤 H A mem run)) (known-factor : Triple 𝓤 (𝓣 .C #factor·factor) (C-factor 𝓤 H A mem run)) (known-answer : Triple 𝓤 (𝓣 .C #jobs·answer) (C-answer 𝓤 H A mem run)) → Meets 𝓤 H A here.signature (WpFn 𝓤 H (𝓣 .C) (𝓣 .Λ) code.function) (here.spec 𝓤 H A mem run)
+  here-meets : (𝓣 : Tables 𝓤 H) (known-plain-order : Triple 𝓤 (𝓣 .C #jobs·plain-order) (C-plain-order 𝓤 H A mem run)) (known-no-stop : Triple 𝓤 (𝓣 .C #jobs·no-stop) (C-no-stop 𝓤 H A mem run)) (known-none : Triple 𝓤 (𝓣 .C #update·none) (C-none 𝓤 H A mem run)) (known-factor : Triple 𝓤 (𝓣 .C #factor·factor) (C-factor 𝓤 H A mem run)) (known-answer : Triple 𝓤 (𝓣 .C #reply·answer) (C-answer 𝓤 H A mem run)) → Meets 𝓤 H A here.signature (WpFn 𝓤 H (𝓣 .C) (𝓣 .Λ) code.function) (here.spec 𝓤 H A mem run)
   here-meets 𝓣 known-plain-order known-no-stop known-none known-factor known-answer = walk-meets 𝓤 H A here.ended stayed W (goes-none 𝓤 H A W 16 (λ _. usize) yes (λ κs x f. refl), (goes-none-slice 𝓤 H A W 16 (0 ∷ []) tt (plain (λ _. usize)) yes, (goes-none-slice 𝓤 H A W 16 (1 ∷ []) tt (plain (λ _. usize)) yes, (goes-none-slice 𝓤 H A W 16 (2 ∷ []) tt (plain (λ _. f64)) yes, (goes-none 𝓤 H A W 16 (λ _. usize) yes (λ κs x f. refl), (goes-none-slice 𝓤 H A W 16 (3 ∷ []) tt (plain (λ _. usize)) yes, (goes-slice 𝓤 H A W 16 4 tt (plain (λ _. usize)), (goes-slice 𝓤 H A W 16 5 tt (plain (λ _. usize)), (goes-slice 𝓤 H A W 16 6 tt (plain (λ _. usize)), (goes-slice 𝓤 H A W 16 7 tt (plain (λ _. usize)), (goes-slice 𝓤 H A W 16 8 tt (plain (λ _. usize)), (goes-slice 𝓤 H A W 16 9 tt (plain (λ _. usize)), (goes-slice 𝓤 H A W 16 10 tt (plain (λ _. usize)), (goes-slice 𝓤 H A W 16 11 tt (plain (λ _. f64)), (goes-slice 𝓤 H A W 16 12 tt (plain (λ _. usize)), (goes-slice 𝓤 H A W 16 13 tt (plain (λ _. f64)), (goes-slice 𝓤 H A W 16 14 tt (plain (λ _. f64)), (goes-ref 𝓤 H A W 16 15 tt (ArrayOf (plain (λ _. u8)) (λ _. tt) 2959), tt)))))))))))))))))) (here.clauses 𝓤 H A mem run)
       (WpFn 𝓤 H (𝓣 .C) (𝓣 .Λ) code.function) (WpFn-mono 𝓤 H (W .laws) 𝓣 code.function) (here-walks 𝓣 known-plain-order known-no-stop known-none known-factor known-answer)
 
@@ -683,4 +683,4 @@ work-in-spec 𝓤 H 𝓜 𝓖 𝓡 =
     (cited 𝓤 H (C-no-stop 𝓤 H (𝓖 .A) (𝓜 .mem) (𝓡 .run)) 𝓜 𝓡 code.env #jobs·no-stop def-no-stop.routine code.calls-jobs·no-stop (thm-no-stop.met 𝓤 H 𝓜 𝓖 𝓡))
     (cited 𝓤 H (C-none 𝓤 H (𝓖 .A) (𝓜 .mem) (𝓡 .run)) 𝓜 𝓡 code.env #update·none def-none.routine code.calls-update·none (thm-none.met 𝓤 H 𝓜 𝓖 𝓡))
     (cited 𝓤 H (C-factor 𝓤 H (𝓖 .A) (𝓜 .mem) (𝓡 .run)) 𝓜 𝓡 code.env #factor·factor def-factor.routine code.calls-factor·factor (thm-factor.met 𝓤 H 𝓜 𝓖 𝓡))
-    (cited 𝓤 H (C-answer 𝓤 H (𝓖 .A) (𝓜 .mem) (𝓡 .run)) 𝓜 𝓡 code.env #jobs·answer def-answer.routine code.calls-jobs·answer·answer (thm-answer.met 𝓤 H 𝓜 𝓖 𝓡)))
+    (cited 𝓤 H (C-answer 𝓤 H (𝓖 .A) (𝓜 .mem) (𝓡 .run)) 𝓜 𝓡 code.env #reply·answer def-answer.routine code.calls-reply·answer (thm-answer.met 𝓤 H 𝓜 𝓖 𝓡)))

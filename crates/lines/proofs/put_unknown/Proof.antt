@@ -46,12 +46,12 @@ returns c =
     let d = now (a .out) in
     let h1 = c .before .before .before .before .before .before .before .before .before .before .before .put-hex .ensures in
     let n1 = hex-length 2 0x82 in
-    let h2 = placed-more d _ _ (hex 2 0x82) (hex 4 (a .position)) (a .at) (a .at + 2) h1 (omega arith) (omega (arith, b .pre)) (c .before .before .before .before .before .before .before .put-hex2 .ensures) in
-    let n2 = long (hex 2 0x82) 2 4 (a .position) n1 in
-    let h3 = placed-more d _ _ (hex 2 0x82 ++ hex 4 (a .position)) (hex 16 (toBits binary64 (a .x))) (a .at) (a .at + 6) h2 (omega arith) (omega (arith, b .pre)) (placed-as _ _ _ _ _ _ (c .before .before .put-hex3 .ensures) (c .before .before .before .bits-of .ensures)) in
-    let n3 = long (hex 2 0x82 ++ hex 4 (a .position)) 6 16 (toBits binary64 (a .x)) n2 in
+    let h2 = placed-more d _ _ (hex 2 0x82) (hex 4 (a .position .0)) (a .at) (a .at + 2) h1 (omega arith) (omega (arith, b .pre)) (c .before .before .before .before .before .before .before .put-hex2 .ensures) in
+    let n2 = long (hex 2 0x82) 2 4 (a .position .0) n1 in
+    let h3 = placed-more d _ _ (hex 2 0x82 ++ hex 4 (a .position .0)) (hex 16 (toBits binary64 (a .x))) (a .at) (a .at + 6) h2 (omega arith) (omega (arith, b .pre)) (placed-as _ _ _ _ _ _ (c .before .before .put-hex3 .ensures) (c .before .before .before .bits-of .ensures)) in
+    let n3 = long (hex 2 0x82 ++ hex 4 (a .position .0)) 6 16 (toBits binary64 (a .x)) n2 in
     let l = c .before .before .put-hex3 .kept .0 ∙ c .before .before .before .before .before .before .before .put-hex2 .kept .0 ∙ c .before .before .before .before .before .before .before .before .before .before .before .put-hex .kept .0 in
-    placed-end d _ (hex 2 0x82 ++ hex 4 (a .position) ++ hex 16 (toBits binary64 (a .x))) (a .at) (a .at + 22) 10 h3 (omega arith) (omega (arith, b .pre)) l
+    placed-end d _ (hex 2 0x82 ++ hex 4 (a .position .0) ++ hex 16 (toBits binary64 (a .x))) (a .at) (a .at + 22) 10 h3 (omega arith) (omega (arith, b .pre)) l
 
 pub put-unknown-spec : {M : Type 1} → statement M
 put-unknown-spec =

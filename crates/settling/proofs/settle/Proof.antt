@@ -62,6 +62,9 @@ use Rattle.statement.proofs.Stop as T-Stop
 use Rattle.statement.proofs.Stop.Laws as L-Stop
 use Rattle.statement.specs.declared.Update.{Update}
 use Rattle.statement.proofs.Update as T-Update
+use Rattle.statement.specs.declared.Factored.{Factored}
+use Rattle.statement.proofs.Factored as T-Factored
+use Rattle.statement.proofs.Factored.Laws as L-Factored
 use Rattle.survey.proofs.supernodes as f-supernodes
 use Rattle.survey.proofs.supernodes.Symbol as def-supernodes
 use Rattle.survey.proofs.supernodes.Symbol.{name as #survey·supernodes}
@@ -326,7 +329,7 @@ module _ {M : Type 1} (𝓤 : URA M) (H : Heap 𝓤) (A : Atoms 𝓤) (W : Given
   ty25 = tyInt w64
 
   abbrev ty26 : Ty
-  ty26 = tyInt w64
+  ty26 = L-Factored.mir
 
   abbrev ty27 : Ty
   ty27 = L-Outcome.mir
@@ -481,7 +484,7 @@ module _ {M : Type 1} (𝓤 : URA M) (H : Heap 𝓤) (A : Atoms 𝓤) (W : Given
   abbrev ty77 : Ty
   ty77 = sliceTy (tyRef erased mut (pointee (T-Update.the-row .written)))
 
-  exits : (u1 : ℕ) (r1 : Val) (is1 : Is usize u1 (r1 ∷ [])) (d1 : u1 ≡ x .supernodes) (c2-words : List ℕ) (c2-updates : List Update) (d2 : LaidOut n u1 (input-starts) (input-rows) (words) (c2-words) (updates) (c2-updates)) (same2-words : length c2-words ≡ length words) (same2-updates : length c2-updates ≡ length updates) (u3 : ℕ) (r3 : Val) (is3 : Is usize u3 (r3 ∷ [])) (d3 : Steps x stop u3) (u4 : ℕ) (r4 : Val) (is4 : Is usize u4 (r4 ∷ [])) (d4 : u4 ≡ x .entries) (u5 : ℕ) (r5 : Val) (is5 : Is usize u5 (r5 ∷ [])) (c5-words : List ℕ) (c5-floats : List Float) (c5-values : List Float) (d5 : RunLeft u3 u1 n (length input-rows) u4 (firsts) (starts) (rows) (c2-words) (c5-words) (floats) (values) (c5-values) u5) (same5-words : length c5-words ≡ length c2-words) (same5-floats : length c5-floats ≡ length floats) (same5-values : length c5-values ≡ length values) (u6 : Outcome) (r6 : Val) (is6 : Is T-Outcome.the-row u6 (r6 ∷ [])) (c6-permutation : List ℕ) (c6-firsts : List ℕ) (c6-starts : List ℕ) (c6-groups : List ℕ) (c6-tasks : List ℕ) (c6-top : List ℕ) (c6-words : List ℕ) (c6-floats : List Float) (c6-rows : List ℕ) (c6-values : List Float) (d6 : FactorSettlesPlain (factor (matrix n (input-starts) (input-rows) (input-values)) cap order («list») stop (lentAll (length (permutation)) (length (firsts)) (length (starts)) (length (groups)) (length (tasks)) (length (top)) (length (c5-words)) (length (c5-floats)) (length (rows)) (length updates) (length (c5-values)))) u6 (c6-permutation) (c6-firsts) (c6-starts) (c6-groups) (c6-tasks) (c6-top) (c6-words) (c6-floats) (c6-rows) (c6-values)) (same6-permutation : length c6-permutation ≡ length permutation) (same6-firsts : length c6-firsts ≡ length firsts) (same6-starts : length c6-starts ≡ length starts) (same6-groups : length c6-groups ≡ length groups) (same6-tasks : length c6-tasks ≡ length tasks) (same6-top : length c6-top ≡ length top) (same6-words : length c6-words ≡ length c5-words) (same6-floats : length c6-floats ≡ length c5-floats) (same6-rows : length c6-rows ≡ length rows) (same6-values : length c6-values ≡ length c5-values) (u7 : ℕ) (r7 : Val) (is7 : Is usize u7 (r7 ∷ [])) (d7 : u7 ≡ staleOf (u6 .answer) (length updates)) (c8-updates : List Update) (d8 : c8-updates ≡ replicate u7 noUpdate ++ drop u7 (c2-updates)) (same8-updates : length c8-updates ≡ length c2-updates) → ent 𝓤 (⋆ 𝓤 H A (‵ (flft κ-input-starts q-input-starts) ∷ ‵ (flft κ-input-rows q-input-rows) ∷ ‵ (flft κ-input-values q-input-values) ∷ ‵ (flft κ-list q-list) ∷ ‵ (flft κ-permutation q-permutation) ∷ ‵ (flft κ-firsts q-firsts) ∷ ‵ (flft κ-starts q-starts) ∷ ‵ (flft κ-groups q-groups) ∷ ‵ (flft κ-tasks q-tasks) ∷ ‵ (flft κ-top q-top) ∷ ‵ (flft κ-words q-words) ∷ ‵ (flft κ-floats q-floats) ∷ ‵ (flft κ-rows q-rows) ∷ ‵ (flft κ-updates q-updates) ∷ ‵ (flft κ-values q-values) ∷ ‵ (ShrSlice (named 0) κ-input-starts usize .own (ref-input-starts γ-input-starts input-starts) (sliceVal (b-input-starts, o-input-starts) (length input-starts) ∷ [])) ∷ ‵ (ShrSlice (named 1) κ-input-rows usize .own (ref-input-rows γ-input-rows input-rows) (sliceVal (b-input-rows, o-input-rows) (length input-rows) ∷ [])) ∷ ‵ (ShrSlice (named 2) κ-input-values f64 .own (ref-input-values γ-input-values input-values) (sliceVal (b-input-values, o-input-values) (length input-values) ∷ [])) ∷ ‵ (ShrSlice (named 3) κ-list usize .own (ref-list γ-list «list») (sliceVal (b-list, o-list) (length «list») ∷ [])) ∷ ‵ (MutSlice (named 4) κ-permutation usize .own (ref-permutation γ-permutation c6-permutation) (sliceVal (b-permutation, o-permutation) (length permutation) ∷ [])) ∷ ‵ (MutSlice (named 5) κ-firsts usize .own (ref-firsts γ-firsts c6-firsts) (sliceVal (b-firsts, o-firsts) (length firsts) ∷ [])) ∷ ‵ (MutSlice (named 6) κ-starts usize .own (ref-starts γ-starts c6-starts) (sliceVal (b-starts, o-starts) (length starts) ∷ [])) ∷ ‵ (MutSlice (named 7) κ-groups usize .own (ref-groups γ-groups c6-groups) (sliceVal (b-groups, o-groups) (length groups) ∷ [])) ∷ ‵ (MutSlice (named 8) κ-tasks usize .own (ref-tasks γ-tasks c6-tasks) (sliceVal (b-tasks, o-tasks) (length tasks) ∷ [])) ∷ ‵ (MutSlice (named 9) κ-top usize .own (ref-top γ-top c6-top) (sliceVal (b-top, o-top) (length top) ∷ [])) ∷ ‵ (MutSlice (named 10) κ-words usize .own (ref-words γ-words c6-words) (sliceVal (b-words, o-words) (length words) ∷ [])) ∷ ‵ (MutSlice (named 11) κ-floats f64 .own (ref-floats γ-floats c6-floats) (sliceVal (b-floats, o-floats) (length floats) ∷ [])) ∷ ‵ (MutSlice (named 12) κ-rows usize .own (ref-rows γ-rows c6-rows) (sliceVal (b-rows, o-rows) (length rows) ∷ [])) ∷ ‵ (MutSlice (named 13) κ-updates T-Update.the-row .own (ref-updates γ-updates c8-updates) (sliceVal (b-updates, o-updates) (length updates) ∷ [])) ∷ ‵ (MutSlice (named 14) κ-values f64 .own (ref-values γ-values c6-values) (sliceVal (b-values, o-values) (length values) ∷ [])) ∷ [])) (Post r6)
+  exits : (u1 : ℕ) (r1 : Val) (is1 : Is usize u1 (r1 ∷ [])) (d1 : u1 ≡ x .supernodes) (c2-words : List ℕ) (c2-updates : List Update) (d2 : LaidOut n u1 (input-starts) (input-rows) (words) (c2-words) (updates) (c2-updates)) (same2-words : length c2-words ≡ length words) (same2-updates : length c2-updates ≡ length updates) (u3 : ℕ) (r3 : Val) (is3 : Is usize u3 (r3 ∷ [])) (d3 : Steps x stop u3) (u4 : ℕ) (r4 : Val) (is4 : Is usize u4 (r4 ∷ [])) (d4 : u4 ≡ x .entries) (u5 : Factored) (r5 : Val) (is5 : Is T-Factored.the-row u5 (r5 ∷ [])) (c5-words : List ℕ) (c5-floats : List Float) (c5-values : List Float) (d5 : RunLeft u3 n (length input-rows) u4 (firsts) (starts) (rows) (c2-words) (floats) (values) (c5-values) u5) (same5-words : length c5-words ≡ length c2-words) (same5-floats : length c5-floats ≡ length floats) (same5-values : length c5-values ≡ length values) (u6 : Outcome) (r6 : Val) (is6 : Is T-Outcome.the-row u6 (r6 ∷ [])) (c6-permutation : List ℕ) (c6-firsts : List ℕ) (c6-starts : List ℕ) (c6-groups : List ℕ) (c6-tasks : List ℕ) (c6-top : List ℕ) (c6-words : List ℕ) (c6-floats : List Float) (c6-rows : List ℕ) (c6-values : List Float) (d6 : FactorSettlesPlain (factor (matrix n (input-starts) (input-rows) (input-values)) cap order («list») stop (lentAll (length (permutation)) (length (firsts)) (length (starts)) (length (groups)) (length (tasks)) (length (top)) (length (c5-words)) (length (c5-floats)) (length (rows)) (length updates) (length (c5-values)))) u6 (c6-permutation) (c6-firsts) (c6-starts) (c6-groups) (c6-tasks) (c6-top) (c6-words) (c6-floats) (c6-rows) (c6-values)) (same6-permutation : length c6-permutation ≡ length permutation) (same6-firsts : length c6-firsts ≡ length firsts) (same6-starts : length c6-starts ≡ length starts) (same6-groups : length c6-groups ≡ length groups) (same6-tasks : length c6-tasks ≡ length tasks) (same6-top : length c6-top ≡ length top) (same6-words : length c6-words ≡ length c5-words) (same6-floats : length c6-floats ≡ length c5-floats) (same6-rows : length c6-rows ≡ length rows) (same6-values : length c6-values ≡ length c5-values) (u7 : ℕ) (r7 : Val) (is7 : Is usize u7 (r7 ∷ [])) (d7 : u7 ≡ staleOf (u6 .answer) (length updates)) (c8-updates : List Update) (d8 : c8-updates ≡ replicate u7 noUpdate ++ drop u7 (c2-updates)) (same8-updates : length c8-updates ≡ length c2-updates) → ent 𝓤 (⋆ 𝓤 H A (‵ (flft κ-input-starts q-input-starts) ∷ ‵ (flft κ-input-rows q-input-rows) ∷ ‵ (flft κ-input-values q-input-values) ∷ ‵ (flft κ-list q-list) ∷ ‵ (flft κ-permutation q-permutation) ∷ ‵ (flft κ-firsts q-firsts) ∷ ‵ (flft κ-starts q-starts) ∷ ‵ (flft κ-groups q-groups) ∷ ‵ (flft κ-tasks q-tasks) ∷ ‵ (flft κ-top q-top) ∷ ‵ (flft κ-words q-words) ∷ ‵ (flft κ-floats q-floats) ∷ ‵ (flft κ-rows q-rows) ∷ ‵ (flft κ-updates q-updates) ∷ ‵ (flft κ-values q-values) ∷ ‵ (ShrSlice (named 0) κ-input-starts usize .own (ref-input-starts γ-input-starts input-starts) (sliceVal (b-input-starts, o-input-starts) (length input-starts) ∷ [])) ∷ ‵ (ShrSlice (named 1) κ-input-rows usize .own (ref-input-rows γ-input-rows input-rows) (sliceVal (b-input-rows, o-input-rows) (length input-rows) ∷ [])) ∷ ‵ (ShrSlice (named 2) κ-input-values f64 .own (ref-input-values γ-input-values input-values) (sliceVal (b-input-values, o-input-values) (length input-values) ∷ [])) ∷ ‵ (ShrSlice (named 3) κ-list usize .own (ref-list γ-list «list») (sliceVal (b-list, o-list) (length «list») ∷ [])) ∷ ‵ (MutSlice (named 4) κ-permutation usize .own (ref-permutation γ-permutation c6-permutation) (sliceVal (b-permutation, o-permutation) (length permutation) ∷ [])) ∷ ‵ (MutSlice (named 5) κ-firsts usize .own (ref-firsts γ-firsts c6-firsts) (sliceVal (b-firsts, o-firsts) (length firsts) ∷ [])) ∷ ‵ (MutSlice (named 6) κ-starts usize .own (ref-starts γ-starts c6-starts) (sliceVal (b-starts, o-starts) (length starts) ∷ [])) ∷ ‵ (MutSlice (named 7) κ-groups usize .own (ref-groups γ-groups c6-groups) (sliceVal (b-groups, o-groups) (length groups) ∷ [])) ∷ ‵ (MutSlice (named 8) κ-tasks usize .own (ref-tasks γ-tasks c6-tasks) (sliceVal (b-tasks, o-tasks) (length tasks) ∷ [])) ∷ ‵ (MutSlice (named 9) κ-top usize .own (ref-top γ-top c6-top) (sliceVal (b-top, o-top) (length top) ∷ [])) ∷ ‵ (MutSlice (named 10) κ-words usize .own (ref-words γ-words c6-words) (sliceVal (b-words, o-words) (length words) ∷ [])) ∷ ‵ (MutSlice (named 11) κ-floats f64 .own (ref-floats γ-floats c6-floats) (sliceVal (b-floats, o-floats) (length floats) ∷ [])) ∷ ‵ (MutSlice (named 12) κ-rows usize .own (ref-rows γ-rows c6-rows) (sliceVal (b-rows, o-rows) (length rows) ∷ [])) ∷ ‵ (MutSlice (named 13) κ-updates T-Update.the-row .own (ref-updates γ-updates c8-updates) (sliceVal (b-updates, o-updates) (length updates) ∷ [])) ∷ ‵ (MutSlice (named 14) κ-values f64 .own (ref-values γ-values c6-values) (sliceVal (b-values, o-values) (length values) ∷ [])) ∷ [])) (Post r6)
   exits u1 r1 is1 d1 c2-words c2-updates d2 same2-words same2-updates u3 r3 is3 d3 u4 r4 is4 d4 u5 r5 is5 c5-words c5-floats c5-values d5 same5-words same5-floats same5-values u6 r6 is6 c6-permutation c6-firsts c6-starts c6-groups c6-tasks c6-top c6-words c6-floats c6-rows c6-values d6 same6-permutation same6-firsts same6-starts same6-groups same6-tasks same6-top same6-words same6-floats same6-rows same6-values u7 r7 is7 d7 c8-updates d8 same8-updates =
       let told : FactorSettles (factor (matrix n (input-starts) (input-rows) (input-values)) cap order («list») stop (lentAll (length (permutation)) (length (firsts)) (length (starts)) (length (groups)) (length (tasks)) (length (top)) (length (words)) (length (floats)) (length (rows)) (length (updates)) (length (values)))) u6 (c6-permutation) (c6-firsts) (c6-starts) (c6-groups) (c6-tasks) (c6-top) (c6-words) (c6-floats) (c6-rows) (c8-updates) (c6-values) = settled-all pre d1 d2 same2-updates refl (plain-at (matrix n input-starts input-rows input-values) cap order «list» stop (lent-same refl refl refl refl refl refl (same5-words ∙ same2-words) same5-floats refl refl same5-values) d6) u7 (d7 ∙ ap (staleOf (u6 .answer)) (sym same2-updates)) d8 in qed W (‵ (flft κ-input-starts q-input-starts) ∷ ‵ (flft κ-input-rows q-input-rows) ∷ ‵ (flft κ-input-values q-input-values) ∷ ‵ (flft κ-list q-list) ∷ ‵ (flft κ-permutation q-permutation) ∷ ‵ (flft κ-firsts q-firsts) ∷ ‵ (flft κ-starts q-starts) ∷ ‵ (flft κ-groups q-groups) ∷ ‵ (flft κ-tasks q-tasks) ∷ ‵ (flft κ-top q-top) ∷ ‵ (flft κ-words q-words) ∷ ‵ (flft κ-floats q-floats) ∷ ‵ (flft κ-rows q-rows) ∷ ‵ (flft κ-updates q-updates) ∷ ‵ (flft κ-values q-values) ∷ ‵ (ShrSlice (named 0) κ-input-starts usize .own (ref-input-starts γ-input-starts input-starts) (sliceVal (b-input-starts, o-input-starts) (length input-starts) ∷ [])) ∷ ‵ (ShrSlice (named 1) κ-input-rows usize .own (ref-input-rows γ-input-rows input-rows) (sliceVal (b-input-rows, o-input-rows) (length input-rows) ∷ [])) ∷ ‵ (ShrSlice (named 2) κ-input-values f64 .own (ref-input-values γ-input-values input-values) (sliceVal (b-input-values, o-input-values) (length input-values) ∷ [])) ∷ ‵ (ShrSlice (named 3) κ-list usize .own (ref-list γ-list «list») (sliceVal (b-list, o-list) (length «list») ∷ [])) ∷ ‵ (MutSlice (named 4) κ-permutation usize .own (ref-permutation γ-permutation c6-permutation) (sliceVal (b-permutation, o-permutation) (length permutation) ∷ [])) ∷ ‵ (MutSlice (named 5) κ-firsts usize .own (ref-firsts γ-firsts c6-firsts) (sliceVal (b-firsts, o-firsts) (length firsts) ∷ [])) ∷ ‵ (MutSlice (named 6) κ-starts usize .own (ref-starts γ-starts c6-starts) (sliceVal (b-starts, o-starts) (length starts) ∷ [])) ∷ ‵ (MutSlice (named 7) κ-groups usize .own (ref-groups γ-groups c6-groups) (sliceVal (b-groups, o-groups) (length groups) ∷ [])) ∷ ‵ (MutSlice (named 8) κ-tasks usize .own (ref-tasks γ-tasks c6-tasks) (sliceVal (b-tasks, o-tasks) (length tasks) ∷ [])) ∷ ‵ (MutSlice (named 9) κ-top usize .own (ref-top γ-top c6-top) (sliceVal (b-top, o-top) (length top) ∷ [])) ∷ ‵ (MutSlice (named 10) κ-words usize .own (ref-words γ-words c6-words) (sliceVal (b-words, o-words) (length words) ∷ [])) ∷ ‵ (MutSlice (named 11) κ-floats f64 .own (ref-floats γ-floats c6-floats) (sliceVal (b-floats, o-floats) (length floats) ∷ [])) ∷ ‵ (MutSlice (named 12) κ-rows usize .own (ref-rows γ-rows c6-rows) (sliceVal (b-rows, o-rows) (length rows) ∷ [])) ∷ ‵ (MutSlice (named 13) κ-updates T-Update.the-row .own (ref-updates γ-updates c8-updates) (sliceVal (b-updates, o-updates) (length updates) ∷ [])) ∷ ‵ (MutSlice (named 14) κ-values f64 .own (ref-values γ-values c6-values) (sliceVal (b-values, o-values) (length values) ∷ [])) ∷ []) ∵
       w-suffices ! _ (ends-at 𝓤 H A here.ended stayed (here.clauses 𝓤 H A mem run) W bound r6 u6 (tt, (tt, (tt, (tt, (tt, (tt, (tt, (tt, (tt, (c6-permutation, (c6-firsts, (c6-starts, (c6-groups, (c6-tasks, (c6-top, (c6-words, (c6-floats, (c6-rows, (c8-updates, (c6-values, tt)))))))))))))))))))) (tt, (tt, (tt, (tt, (tt, (tt, (tt, (tt, (tt, (same6-permutation, (same6-firsts, (same6-starts, (same6-groups, (same6-tasks, (same6-top, (same6-words ∙ same5-words ∙ same2-words, (same6-floats ∙ same5-floats, (same6-rows, (same8-updates ∙ same2-updates, (same6-values ∙ same5-values, tt))))))))))))))))))))) $ w-says ! told $
@@ -519,15 +522,15 @@ module _ {M : Type 1} (𝓤 : URA M) (H : Heap 𝓤) (A : Atoms 𝓤) (W : Given
     asked5 u1 r1 is1 d1 c2-words c2-updates d2 same2-words same2-updates u3 r3 is3 d3 u4 r4 is4 d4 ν5-5 δ5-5 ν5-6 δ5-6 ν5-7 δ5-7 ν5-8 δ5-8 ν5-9 δ5-9 ν5-10 δ5-10 ν5-11 δ5-11 ν5-12 δ5-12 =
         let need : (0 < u3 → RunReady u3 u1 n (length input-rows) u4 (firsts) (starts) (rows) (groups) (c2-updates) (c2-words) (floats) (values)) = run-asked pre d1 d2 same2-words d3 d4 in qed W ((‵ (flft (ν5-5 ∷ []) fullShare) ⊛ ‵ (flft (ν5-6 ∷ []) fullShare) ⊛ ‵ (flft (ν5-7 ∷ []) fullShare) ⊛ ‵ (flft (ν5-8 ∷ []) fullShare) ⊛ ‵ (flft (ν5-9 ∷ []) fullShare) ⊛ ‵ (flft (ν5-10 ∷ []) fullShare) ⊛ ‵ (flft (ν5-11 ∷ []) fullShare) ⊛ ‵ (flft (ν5-12 ∷ []) fullShare) ⊛ ‵ ftrue) ∷ ‵ (owns (usize ∷ usize ∷ usize ∷ usize ∷ usize ∷ ShrSlice (named 0) (ν5-5 ∷ []) usize ∷ ShrSlice (named 1) (ν5-6 ∷ []) usize ∷ ShrSlice (named 2) (ν5-7 ∷ []) usize ∷ ShrSlice (named 3) (ν5-8 ∷ []) usize ∷ ShrSlice (named 4) (ν5-9 ∷ []) T-Update.the-row ∷ MutSlice (named 5) (ν5-10 ∷ []) usize ∷ MutSlice (named 6) (ν5-11 ∷ []) f64 ∷ MutSlice (named 7) (ν5-12 ∷ []) f64 ∷ []) (u3, (u1, (n, ((length input-rows), (u4, (ref-firsts δ5-5 firsts, (ref-starts δ5-6 starts, (ref-rows δ5-7 rows, (ref-groups δ5-8 groups, (ref-updates δ5-9 c2-updates, (ref-words δ5-10 c2-words, (ref-floats δ5-11 floats, (ref-values δ5-12 values, tt))))))))))))) (r3 ∷ [], (r1 ∷ [], (vint w64 n ∷ [], (vint w64 (length input-rows) ∷ [], (r4 ∷ [], (s-firsts ∷ [], (s-starts ∷ [], (s-rows ∷ [], (s-groups ∷ [], (s-updates ∷ [], (s-words ∷ [], (s-floats ∷ [], (s-values ∷ [], tt)))))))))))))) ∷ []) ∵ w-says ! need $ w-frame ! $ done !
 
-    asked6 : (u1 : ℕ) (r1 : Val) (is1 : Is usize u1 (r1 ∷ [])) (d1 : u1 ≡ x .supernodes) (c2-words : List ℕ) (c2-updates : List Update) (d2 : LaidOut n u1 (input-starts) (input-rows) (words) (c2-words) (updates) (c2-updates)) (same2-words : length c2-words ≡ length words) (same2-updates : length c2-updates ≡ length updates) (u3 : ℕ) (r3 : Val) (is3 : Is usize u3 (r3 ∷ [])) (d3 : Steps x stop u3) (u4 : ℕ) (r4 : Val) (is4 : Is usize u4 (r4 ∷ [])) (d4 : u4 ≡ x .entries) (u5 : ℕ) (r5 : Val) (is5 : Is usize u5 (r5 ∷ [])) (c5-words : List ℕ) (c5-floats : List Float) (c5-values : List Float) (d5 : RunLeft u3 u1 n (length input-rows) u4 (firsts) (starts) (rows) (c2-words) (c5-words) (floats) (values) (c5-values) u5) (same5-words : length c5-words ≡ length c2-words) (same5-floats : length c5-floats ≡ length floats) (same5-values : length c5-values ≡ length values) (ν6-11 : ℕ) (δ6-11 : GName) (ν6-12 : ℕ) (δ6-12 : GName) (ν6-13 : ℕ) (δ6-13 : GName) (ν6-14 : ℕ) (δ6-14 : GName) (ν6-15 : ℕ) (δ6-15 : GName) (ν6-16 : ℕ) (δ6-16 : GName) (ν6-17 : ℕ) (δ6-17 : GName) (ν6-18 : ℕ) (δ6-18 : GName) (ν6-19 : ℕ) (δ6-19 : GName) (ν6-20 : ℕ) (δ6-20 : GName) → ent 𝓤 (onEntry 𝓤 H A f-finish.signature (κ-input-starts, (κ-input-rows, (κ-input-values, (κ-list, (ν6-11 ∷ [], (ν6-12 ∷ [], (ν6-13 ∷ [], (ν6-14 ∷ [], (ν6-15 ∷ [], (ν6-16 ∷ [], (ν6-17 ∷ [], (ν6-18 ∷ [], (ν6-19 ∷ [], (ν6-20 ∷ [], tt)))))))))))))) (q-input-starts, (q-input-rows, (q-input-values, (q-list, (fullShare, (fullShare, (fullShare, (fullShare, (fullShare, (fullShare, (fullShare, (fullShare, (fullShare, (fullShare, tt)))))))))))))) (x, (u5, (n, (ref-input-starts γ-input-starts input-starts, (ref-input-rows γ-input-rows input-rows, (ref-input-values γ-input-values input-values, (cap, (order, (ref-list γ-list «list», (stop, ((length updates), (ref-permutation δ6-11 permutation, (ref-firsts δ6-12 firsts, (ref-starts δ6-13 starts, (ref-groups δ6-14 groups, (ref-tasks δ6-15 tasks, (ref-top δ6-16 top, (ref-words δ6-17 c5-words, (ref-floats δ6-18 c5-floats, (ref-rows δ6-19 rows, (ref-values δ6-20 c5-values, tt))))))))))))))))))))) (m-x ∷ [], (r5 ∷ [], (vint w64 n ∷ [], (s-input-starts ∷ [], (s-input-rows ∷ [], (s-input-values ∷ [], (vint w64 cap ∷ [], (m-order ∷ [], (s-list ∷ [], (m-stop ∷ [], (vint w64 (length updates) ∷ [], (s-permutation ∷ [], (s-firsts ∷ [], (s-starts ∷ [], (s-groups ∷ [], (s-tasks ∷ [], (s-top ∷ [], (s-words ∷ [], (s-floats ∷ [], (s-rows ∷ [], (s-values ∷ [], tt)))))))))))))))))))))) (C-finish 𝓤 H A mem run .pre (((κ-input-starts, (κ-input-rows, (κ-input-values, (κ-list, (ν6-11 ∷ [], (ν6-12 ∷ [], (ν6-13 ∷ [], (ν6-14 ∷ [], (ν6-15 ∷ [], (ν6-16 ∷ [], (ν6-17 ∷ [], (ν6-18 ∷ [], (ν6-19 ∷ [], (ν6-20 ∷ [], tt)))))))))))))), (q-input-starts, (q-input-rows, (q-input-values, (q-list, (fullShare, (fullShare, (fullShare, (fullShare, (fullShare, (fullShare, (fullShare, (fullShare, (fullShare, (fullShare, tt)))))))))))))), tt, (x, (u5, (n, (ref-input-starts γ-input-starts input-starts, (ref-input-rows γ-input-rows input-rows, (ref-input-values γ-input-values input-values, (cap, (order, (ref-list γ-list «list», (stop, ((length updates), (ref-permutation δ6-11 permutation, (ref-firsts δ6-12 firsts, (ref-starts δ6-13 starts, (ref-groups δ6-14 groups, (ref-tasks δ6-15 tasks, (ref-top δ6-16 top, (ref-words δ6-17 c5-words, (ref-floats δ6-18 c5-floats, (ref-rows δ6-19 rows, (ref-values δ6-20 c5-values, tt))))))))))))))))))))), (m-x ∷ [], (r5 ∷ [], (vint w64 n ∷ [], (s-input-starts ∷ [], (s-input-rows ∷ [], (s-input-values ∷ [], (vint w64 cap ∷ [], (m-order ∷ [], (s-list ∷ [], (m-stop ∷ [], (vint w64 (length updates) ∷ [], (s-permutation ∷ [], (s-firsts ∷ [], (s-starts ∷ [], (s-groups ∷ [], (s-tasks ∷ [], (s-top ∷ [], (s-words ∷ [], (s-floats ∷ [], (s-rows ∷ [], (s-values ∷ [], tt)))))))))))))))))))))), tt))
+    asked6 : (u1 : ℕ) (r1 : Val) (is1 : Is usize u1 (r1 ∷ [])) (d1 : u1 ≡ x .supernodes) (c2-words : List ℕ) (c2-updates : List Update) (d2 : LaidOut n u1 (input-starts) (input-rows) (words) (c2-words) (updates) (c2-updates)) (same2-words : length c2-words ≡ length words) (same2-updates : length c2-updates ≡ length updates) (u3 : ℕ) (r3 : Val) (is3 : Is usize u3 (r3 ∷ [])) (d3 : Steps x stop u3) (u4 : ℕ) (r4 : Val) (is4 : Is usize u4 (r4 ∷ [])) (d4 : u4 ≡ x .entries) (u5 : Factored) (r5 : Val) (is5 : Is T-Factored.the-row u5 (r5 ∷ [])) (c5-words : List ℕ) (c5-floats : List Float) (c5-values : List Float) (d5 : RunLeft u3 n (length input-rows) u4 (firsts) (starts) (rows) (c2-words) (floats) (values) (c5-values) u5) (same5-words : length c5-words ≡ length c2-words) (same5-floats : length c5-floats ≡ length floats) (same5-values : length c5-values ≡ length values) (ν6-11 : ℕ) (δ6-11 : GName) (ν6-12 : ℕ) (δ6-12 : GName) (ν6-13 : ℕ) (δ6-13 : GName) (ν6-14 : ℕ) (δ6-14 : GName) (ν6-15 : ℕ) (δ6-15 : GName) (ν6-16 : ℕ) (δ6-16 : GName) (ν6-17 : ℕ) (δ6-17 : GName) (ν6-18 : ℕ) (δ6-18 : GName) (ν6-19 : ℕ) (δ6-19 : GName) (ν6-20 : ℕ) (δ6-20 : GName) → ent 𝓤 (onEntry 𝓤 H A f-finish.signature (κ-input-starts, (κ-input-rows, (κ-input-values, (κ-list, (ν6-11 ∷ [], (ν6-12 ∷ [], (ν6-13 ∷ [], (ν6-14 ∷ [], (ν6-15 ∷ [], (ν6-16 ∷ [], (ν6-17 ∷ [], (ν6-18 ∷ [], (ν6-19 ∷ [], (ν6-20 ∷ [], tt)))))))))))))) (q-input-starts, (q-input-rows, (q-input-values, (q-list, (fullShare, (fullShare, (fullShare, (fullShare, (fullShare, (fullShare, (fullShare, (fullShare, (fullShare, (fullShare, tt)))))))))))))) (x, (u5, (n, (ref-input-starts γ-input-starts input-starts, (ref-input-rows γ-input-rows input-rows, (ref-input-values γ-input-values input-values, (cap, (order, (ref-list γ-list «list», (stop, ((length updates), (ref-permutation δ6-11 permutation, (ref-firsts δ6-12 firsts, (ref-starts δ6-13 starts, (ref-groups δ6-14 groups, (ref-tasks δ6-15 tasks, (ref-top δ6-16 top, (ref-words δ6-17 c5-words, (ref-floats δ6-18 c5-floats, (ref-rows δ6-19 rows, (ref-values δ6-20 c5-values, tt))))))))))))))))))))) (m-x ∷ [], (r5 ∷ [], (vint w64 n ∷ [], (s-input-starts ∷ [], (s-input-rows ∷ [], (s-input-values ∷ [], (vint w64 cap ∷ [], (m-order ∷ [], (s-list ∷ [], (m-stop ∷ [], (vint w64 (length updates) ∷ [], (s-permutation ∷ [], (s-firsts ∷ [], (s-starts ∷ [], (s-groups ∷ [], (s-tasks ∷ [], (s-top ∷ [], (s-words ∷ [], (s-floats ∷ [], (s-rows ∷ [], (s-values ∷ [], tt)))))))))))))))))))))) (C-finish 𝓤 H A mem run .pre (((κ-input-starts, (κ-input-rows, (κ-input-values, (κ-list, (ν6-11 ∷ [], (ν6-12 ∷ [], (ν6-13 ∷ [], (ν6-14 ∷ [], (ν6-15 ∷ [], (ν6-16 ∷ [], (ν6-17 ∷ [], (ν6-18 ∷ [], (ν6-19 ∷ [], (ν6-20 ∷ [], tt)))))))))))))), (q-input-starts, (q-input-rows, (q-input-values, (q-list, (fullShare, (fullShare, (fullShare, (fullShare, (fullShare, (fullShare, (fullShare, (fullShare, (fullShare, (fullShare, tt)))))))))))))), tt, (x, (u5, (n, (ref-input-starts γ-input-starts input-starts, (ref-input-rows γ-input-rows input-rows, (ref-input-values γ-input-values input-values, (cap, (order, (ref-list γ-list «list», (stop, ((length updates), (ref-permutation δ6-11 permutation, (ref-firsts δ6-12 firsts, (ref-starts δ6-13 starts, (ref-groups δ6-14 groups, (ref-tasks δ6-15 tasks, (ref-top δ6-16 top, (ref-words δ6-17 c5-words, (ref-floats δ6-18 c5-floats, (ref-rows δ6-19 rows, (ref-values δ6-20 c5-values, tt))))))))))))))))))))), (m-x ∷ [], (r5 ∷ [], (vint w64 n ∷ [], (s-input-starts ∷ [], (s-input-rows ∷ [], (s-input-values ∷ [], (vint w64 cap ∷ [], (m-order ∷ [], (s-list ∷ [], (m-stop ∷ [], (vint w64 (length updates) ∷ [], (s-permutation ∷ [], (s-firsts ∷ [], (s-starts ∷ [], (s-groups ∷ [], (s-tasks ∷ [], (s-top ∷ [], (s-words ∷ [], (s-floats ∷ [], (s-rows ∷ [], (s-values ∷ [], tt)))))))))))))))))))))), tt))
     asked6 u1 r1 is1 d1 c2-words c2-updates d2 same2-words same2-updates u3 r3 is3 d3 u4 r4 is4 d4 u5 r5 is5 c5-words c5-floats c5-values d5 same5-words same5-floats same5-values ν6-11 δ6-11 ν6-12 δ6-12 ν6-13 δ6-13 ν6-14 δ6-14 ν6-15 δ6-15 ν6-16 δ6-16 ν6-17 δ6-17 ν6-18 δ6-18 ν6-19 δ6-19 ν6-20 δ6-20 =
-        let need : Ended (matrix n (input-starts) (input-rows) (input-values)) cap order («list») stop (lentAll (length (permutation)) (length (firsts)) (length (starts)) (length (groups)) (length (tasks)) (length (top)) (length (c5-words)) (length (c5-floats)) (length (rows)) (length updates) (length (c5-values))) x u5 (permutation) (firsts) (starts) (groups) (tasks) (rows) (c5-values) = ended-at (matrix n input-starts input-rows input-values) cap order «list» stop (lent-same refl refl refl refl refl refl (sym (same5-words ∙ same2-words)) (sym same5-floats) refl refl (sym same5-values)) (ended pre d1 d2 same2-words d3 d4 d5 same5-values) in qed W ((‵ (flft (κ-input-starts) q-input-starts) ⊛ ‵ (flft (κ-input-rows) q-input-rows) ⊛ ‵ (flft (κ-input-values) q-input-values) ⊛ ‵ (flft (κ-list) q-list) ⊛ ‵ (flft (ν6-11 ∷ []) fullShare) ⊛ ‵ (flft (ν6-12 ∷ []) fullShare) ⊛ ‵ (flft (ν6-13 ∷ []) fullShare) ⊛ ‵ (flft (ν6-14 ∷ []) fullShare) ⊛ ‵ (flft (ν6-15 ∷ []) fullShare) ⊛ ‵ (flft (ν6-16 ∷ []) fullShare) ⊛ ‵ (flft (ν6-17 ∷ []) fullShare) ⊛ ‵ (flft (ν6-18 ∷ []) fullShare) ⊛ ‵ (flft (ν6-19 ∷ []) fullShare) ⊛ ‵ (flft (ν6-20 ∷ []) fullShare) ⊛ ‵ ftrue) ∷ ‵ (owns (T-Findings.the-row ∷ usize ∷ usize ∷ ShrSlice (named 0) (κ-input-starts) usize ∷ ShrSlice (named 1) (κ-input-rows) usize ∷ ShrSlice (named 2) (κ-input-values) f64 ∷ usize ∷ T-Order.the-row ∷ ShrSlice (named 3) (κ-list) usize ∷ T-Stop.the-row ∷ usize ∷ MutSlice (named 4) (ν6-11 ∷ []) usize ∷ MutSlice (named 5) (ν6-12 ∷ []) usize ∷ MutSlice (named 6) (ν6-13 ∷ []) usize ∷ MutSlice (named 7) (ν6-14 ∷ []) usize ∷ MutSlice (named 8) (ν6-15 ∷ []) usize ∷ MutSlice (named 9) (ν6-16 ∷ []) usize ∷ MutSlice (named 10) (ν6-17 ∷ []) usize ∷ MutSlice (named 11) (ν6-18 ∷ []) f64 ∷ MutSlice (named 12) (ν6-19 ∷ []) usize ∷ MutSlice (named 13) (ν6-20 ∷ []) f64 ∷ []) (x, (u5, (n, (ref-input-starts γ-input-starts input-starts, (ref-input-rows γ-input-rows input-rows, (ref-input-values γ-input-values input-values, (cap, (order, (ref-list γ-list «list», (stop, ((length updates), (ref-permutation δ6-11 permutation, (ref-firsts δ6-12 firsts, (ref-starts δ6-13 starts, (ref-groups δ6-14 groups, (ref-tasks δ6-15 tasks, (ref-top δ6-16 top, (ref-words δ6-17 c5-words, (ref-floats δ6-18 c5-floats, (ref-rows δ6-19 rows, (ref-values δ6-20 c5-values, tt))))))))))))))))))))) (m-x ∷ [], (r5 ∷ [], (vint w64 n ∷ [], (s-input-starts ∷ [], (s-input-rows ∷ [], (s-input-values ∷ [], (vint w64 cap ∷ [], (m-order ∷ [], (s-list ∷ [], (m-stop ∷ [], (vint w64 (length updates) ∷ [], (s-permutation ∷ [], (s-firsts ∷ [], (s-starts ∷ [], (s-groups ∷ [], (s-tasks ∷ [], (s-top ∷ [], (s-words ∷ [], (s-floats ∷ [], (s-rows ∷ [], (s-values ∷ [], tt)))))))))))))))))))))) ∷ []) ∵ w-says ! need $ w-frame ! $ done !
+        let need : Ended (matrix n (input-starts) (input-rows) (input-values)) cap order («list») stop (lentAll (length (permutation)) (length (firsts)) (length (starts)) (length (groups)) (length (tasks)) (length (top)) (length (c5-words)) (length (c5-floats)) (length (rows)) (length updates) (length (c5-values))) x u5 (permutation) (firsts) (starts) (groups) (tasks) (rows) (c5-values) = ended-at (matrix n input-starts input-rows input-values) cap order «list» stop (lent-same refl refl refl refl refl refl (sym (same5-words ∙ same2-words)) (sym same5-floats) refl refl (sym same5-values)) (ended pre d1 d2 same2-words d3 d4 d5 same5-values) in qed W ((‵ (flft (κ-input-starts) q-input-starts) ⊛ ‵ (flft (κ-input-rows) q-input-rows) ⊛ ‵ (flft (κ-input-values) q-input-values) ⊛ ‵ (flft (κ-list) q-list) ⊛ ‵ (flft (ν6-11 ∷ []) fullShare) ⊛ ‵ (flft (ν6-12 ∷ []) fullShare) ⊛ ‵ (flft (ν6-13 ∷ []) fullShare) ⊛ ‵ (flft (ν6-14 ∷ []) fullShare) ⊛ ‵ (flft (ν6-15 ∷ []) fullShare) ⊛ ‵ (flft (ν6-16 ∷ []) fullShare) ⊛ ‵ (flft (ν6-17 ∷ []) fullShare) ⊛ ‵ (flft (ν6-18 ∷ []) fullShare) ⊛ ‵ (flft (ν6-19 ∷ []) fullShare) ⊛ ‵ (flft (ν6-20 ∷ []) fullShare) ⊛ ‵ ftrue) ∷ ‵ (owns (T-Findings.the-row ∷ T-Factored.the-row ∷ usize ∷ ShrSlice (named 0) (κ-input-starts) usize ∷ ShrSlice (named 1) (κ-input-rows) usize ∷ ShrSlice (named 2) (κ-input-values) f64 ∷ usize ∷ T-Order.the-row ∷ ShrSlice (named 3) (κ-list) usize ∷ T-Stop.the-row ∷ usize ∷ MutSlice (named 4) (ν6-11 ∷ []) usize ∷ MutSlice (named 5) (ν6-12 ∷ []) usize ∷ MutSlice (named 6) (ν6-13 ∷ []) usize ∷ MutSlice (named 7) (ν6-14 ∷ []) usize ∷ MutSlice (named 8) (ν6-15 ∷ []) usize ∷ MutSlice (named 9) (ν6-16 ∷ []) usize ∷ MutSlice (named 10) (ν6-17 ∷ []) usize ∷ MutSlice (named 11) (ν6-18 ∷ []) f64 ∷ MutSlice (named 12) (ν6-19 ∷ []) usize ∷ MutSlice (named 13) (ν6-20 ∷ []) f64 ∷ []) (x, (u5, (n, (ref-input-starts γ-input-starts input-starts, (ref-input-rows γ-input-rows input-rows, (ref-input-values γ-input-values input-values, (cap, (order, (ref-list γ-list «list», (stop, ((length updates), (ref-permutation δ6-11 permutation, (ref-firsts δ6-12 firsts, (ref-starts δ6-13 starts, (ref-groups δ6-14 groups, (ref-tasks δ6-15 tasks, (ref-top δ6-16 top, (ref-words δ6-17 c5-words, (ref-floats δ6-18 c5-floats, (ref-rows δ6-19 rows, (ref-values δ6-20 c5-values, tt))))))))))))))))))))) (m-x ∷ [], (r5 ∷ [], (vint w64 n ∷ [], (s-input-starts ∷ [], (s-input-rows ∷ [], (s-input-values ∷ [], (vint w64 cap ∷ [], (m-order ∷ [], (s-list ∷ [], (m-stop ∷ [], (vint w64 (length updates) ∷ [], (s-permutation ∷ [], (s-firsts ∷ [], (s-starts ∷ [], (s-groups ∷ [], (s-tasks ∷ [], (s-top ∷ [], (s-words ∷ [], (s-floats ∷ [], (s-rows ∷ [], (s-values ∷ [], tt)))))))))))))))))))))) ∷ []) ∵ w-says ! need $ w-frame ! $ done !
 
-    asked7 : (u1 : ℕ) (r1 : Val) (is1 : Is usize u1 (r1 ∷ [])) (d1 : u1 ≡ x .supernodes) (c2-words : List ℕ) (c2-updates : List Update) (d2 : LaidOut n u1 (input-starts) (input-rows) (words) (c2-words) (updates) (c2-updates)) (same2-words : length c2-words ≡ length words) (same2-updates : length c2-updates ≡ length updates) (u3 : ℕ) (r3 : Val) (is3 : Is usize u3 (r3 ∷ [])) (d3 : Steps x stop u3) (u4 : ℕ) (r4 : Val) (is4 : Is usize u4 (r4 ∷ [])) (d4 : u4 ≡ x .entries) (u5 : ℕ) (r5 : Val) (is5 : Is usize u5 (r5 ∷ [])) (c5-words : List ℕ) (c5-floats : List Float) (c5-values : List Float) (d5 : RunLeft u3 u1 n (length input-rows) u4 (firsts) (starts) (rows) (c2-words) (c5-words) (floats) (values) (c5-values) u5) (same5-words : length c5-words ≡ length c2-words) (same5-floats : length c5-floats ≡ length floats) (same5-values : length c5-values ≡ length values) (u6 : Outcome) (r6 : Val) (is6 : Is T-Outcome.the-row u6 (r6 ∷ [])) (c6-permutation : List ℕ) (c6-firsts : List ℕ) (c6-starts : List ℕ) (c6-groups : List ℕ) (c6-tasks : List ℕ) (c6-top : List ℕ) (c6-words : List ℕ) (c6-floats : List Float) (c6-rows : List ℕ) (c6-values : List Float) (d6 : FactorSettlesPlain (factor (matrix n (input-starts) (input-rows) (input-values)) cap order («list») stop (lentAll (length (permutation)) (length (firsts)) (length (starts)) (length (groups)) (length (tasks)) (length (top)) (length (c5-words)) (length (c5-floats)) (length (rows)) (length updates) (length (c5-values)))) u6 (c6-permutation) (c6-firsts) (c6-starts) (c6-groups) (c6-tasks) (c6-top) (c6-words) (c6-floats) (c6-rows) (c6-values)) (same6-permutation : length c6-permutation ≡ length permutation) (same6-firsts : length c6-firsts ≡ length firsts) (same6-starts : length c6-starts ≡ length starts) (same6-groups : length c6-groups ≡ length groups) (same6-tasks : length c6-tasks ≡ length tasks) (same6-top : length c6-top ≡ length top) (same6-words : length c6-words ≡ length c5-words) (same6-floats : length c6-floats ≡ length c5-floats) (same6-rows : length c6-rows ≡ length rows) (same6-values : length c6-values ≡ length c5-values) → ent 𝓤 (onEntry 𝓤 H A f-stale.signature tt tt (u6, ((length updates), tt)) (r6 ∷ [], (vint w64 (length updates) ∷ [], tt))) (C-stale 𝓤 H A mem run .pre ((tt, tt, tt, (u6, ((length updates), tt)), (r6 ∷ [], (vint w64 (length updates) ∷ [], tt))), tt))
+    asked7 : (u1 : ℕ) (r1 : Val) (is1 : Is usize u1 (r1 ∷ [])) (d1 : u1 ≡ x .supernodes) (c2-words : List ℕ) (c2-updates : List Update) (d2 : LaidOut n u1 (input-starts) (input-rows) (words) (c2-words) (updates) (c2-updates)) (same2-words : length c2-words ≡ length words) (same2-updates : length c2-updates ≡ length updates) (u3 : ℕ) (r3 : Val) (is3 : Is usize u3 (r3 ∷ [])) (d3 : Steps x stop u3) (u4 : ℕ) (r4 : Val) (is4 : Is usize u4 (r4 ∷ [])) (d4 : u4 ≡ x .entries) (u5 : Factored) (r5 : Val) (is5 : Is T-Factored.the-row u5 (r5 ∷ [])) (c5-words : List ℕ) (c5-floats : List Float) (c5-values : List Float) (d5 : RunLeft u3 n (length input-rows) u4 (firsts) (starts) (rows) (c2-words) (floats) (values) (c5-values) u5) (same5-words : length c5-words ≡ length c2-words) (same5-floats : length c5-floats ≡ length floats) (same5-values : length c5-values ≡ length values) (u6 : Outcome) (r6 : Val) (is6 : Is T-Outcome.the-row u6 (r6 ∷ [])) (c6-permutation : List ℕ) (c6-firsts : List ℕ) (c6-starts : List ℕ) (c6-groups : List ℕ) (c6-tasks : List ℕ) (c6-top : List ℕ) (c6-words : List ℕ) (c6-floats : List Float) (c6-rows : List ℕ) (c6-values : List Float) (d6 : FactorSettlesPlain (factor (matrix n (input-starts) (input-rows) (input-values)) cap order («list») stop (lentAll (length (permutation)) (length (firsts)) (length (starts)) (length (groups)) (length (tasks)) (length (top)) (length (c5-words)) (length (c5-floats)) (length (rows)) (length updates) (length (c5-values)))) u6 (c6-permutation) (c6-firsts) (c6-starts) (c6-groups) (c6-tasks) (c6-top) (c6-words) (c6-floats) (c6-rows) (c6-values)) (same6-permutation : length c6-permutation ≡ length permutation) (same6-firsts : length c6-firsts ≡ length firsts) (same6-starts : length c6-starts ≡ length starts) (same6-groups : length c6-groups ≡ length groups) (same6-tasks : length c6-tasks ≡ length tasks) (same6-top : length c6-top ≡ length top) (same6-words : length c6-words ≡ length c5-words) (same6-floats : length c6-floats ≡ length c5-floats) (same6-rows : length c6-rows ≡ length rows) (same6-values : length c6-values ≡ length c5-values) → ent 𝓤 (onEntry 𝓤 H A f-stale.signature tt tt (u6, ((length updates), tt)) (r6 ∷ [], (vint w64 (length updates) ∷ [], tt))) (C-stale 𝓤 H A mem run .pre ((tt, tt, tt, (u6, ((length updates), tt)), (r6 ∷ [], (vint w64 (length updates) ∷ [], tt))), tt))
     asked7 u1 r1 is1 d1 c2-words c2-updates d2 same2-words same2-updates u3 r3 is3 d3 u4 r4 is4 d4 u5 r5 is5 c5-words c5-floats c5-values d5 same5-words same5-floats same5-values u6 r6 is6 c6-permutation c6-firsts c6-starts c6-groups c6-tasks c6-top c6-words c6-floats c6-rows c6-values d6 same6-permutation same6-firsts same6-starts same6-groups same6-tasks same6-top same6-words same6-floats same6-rows same6-values =
         qed W ((‵ ftrue) ∷ ‵ (owns (T-Outcome.the-row ∷ usize ∷ []) (u6, ((length updates), tt)) (r6 ∷ [], (vint w64 (length updates) ∷ [], tt))) ∷ []) ∵ w-join ! $ w-frame ! $ done !
 
-    asked8 : (u1 : ℕ) (r1 : Val) (is1 : Is usize u1 (r1 ∷ [])) (d1 : u1 ≡ x .supernodes) (c2-words : List ℕ) (c2-updates : List Update) (d2 : LaidOut n u1 (input-starts) (input-rows) (words) (c2-words) (updates) (c2-updates)) (same2-words : length c2-words ≡ length words) (same2-updates : length c2-updates ≡ length updates) (u3 : ℕ) (r3 : Val) (is3 : Is usize u3 (r3 ∷ [])) (d3 : Steps x stop u3) (u4 : ℕ) (r4 : Val) (is4 : Is usize u4 (r4 ∷ [])) (d4 : u4 ≡ x .entries) (u5 : ℕ) (r5 : Val) (is5 : Is usize u5 (r5 ∷ [])) (c5-words : List ℕ) (c5-floats : List Float) (c5-values : List Float) (d5 : RunLeft u3 u1 n (length input-rows) u4 (firsts) (starts) (rows) (c2-words) (c5-words) (floats) (values) (c5-values) u5) (same5-words : length c5-words ≡ length c2-words) (same5-floats : length c5-floats ≡ length floats) (same5-values : length c5-values ≡ length values) (u6 : Outcome) (r6 : Val) (is6 : Is T-Outcome.the-row u6 (r6 ∷ [])) (c6-permutation : List ℕ) (c6-firsts : List ℕ) (c6-starts : List ℕ) (c6-groups : List ℕ) (c6-tasks : List ℕ) (c6-top : List ℕ) (c6-words : List ℕ) (c6-floats : List Float) (c6-rows : List ℕ) (c6-values : List Float) (d6 : FactorSettlesPlain (factor (matrix n (input-starts) (input-rows) (input-values)) cap order («list») stop (lentAll (length (permutation)) (length (firsts)) (length (starts)) (length (groups)) (length (tasks)) (length (top)) (length (c5-words)) (length (c5-floats)) (length (rows)) (length updates) (length (c5-values)))) u6 (c6-permutation) (c6-firsts) (c6-starts) (c6-groups) (c6-tasks) (c6-top) (c6-words) (c6-floats) (c6-rows) (c6-values)) (same6-permutation : length c6-permutation ≡ length permutation) (same6-firsts : length c6-firsts ≡ length firsts) (same6-starts : length c6-starts ≡ length starts) (same6-groups : length c6-groups ≡ length groups) (same6-tasks : length c6-tasks ≡ length tasks) (same6-top : length c6-top ≡ length top) (same6-words : length c6-words ≡ length c5-words) (same6-floats : length c6-floats ≡ length c5-floats) (same6-rows : length c6-rows ≡ length rows) (same6-values : length c6-values ≡ length c5-values) (u7 : ℕ) (r7 : Val) (is7 : Is usize u7 (r7 ∷ [])) (d7 : u7 ≡ staleOf (u6 .answer) (length updates)) (ν8-0 : ℕ) (δ8-0 : GName) → ent 𝓤 (onEntry 𝓤 H A f-clear.signature (ν8-0 ∷ [], tt) (fullShare, tt) (ref-updates δ8-0 c2-updates, (u7, tt)) (s-updates ∷ [], (r7 ∷ [], tt))) (C-clear 𝓤 H A mem run .pre (((ν8-0 ∷ [], tt), (fullShare, tt), tt, (ref-updates δ8-0 c2-updates, (u7, tt)), (s-updates ∷ [], (r7 ∷ [], tt))), tt))
+    asked8 : (u1 : ℕ) (r1 : Val) (is1 : Is usize u1 (r1 ∷ [])) (d1 : u1 ≡ x .supernodes) (c2-words : List ℕ) (c2-updates : List Update) (d2 : LaidOut n u1 (input-starts) (input-rows) (words) (c2-words) (updates) (c2-updates)) (same2-words : length c2-words ≡ length words) (same2-updates : length c2-updates ≡ length updates) (u3 : ℕ) (r3 : Val) (is3 : Is usize u3 (r3 ∷ [])) (d3 : Steps x stop u3) (u4 : ℕ) (r4 : Val) (is4 : Is usize u4 (r4 ∷ [])) (d4 : u4 ≡ x .entries) (u5 : Factored) (r5 : Val) (is5 : Is T-Factored.the-row u5 (r5 ∷ [])) (c5-words : List ℕ) (c5-floats : List Float) (c5-values : List Float) (d5 : RunLeft u3 n (length input-rows) u4 (firsts) (starts) (rows) (c2-words) (floats) (values) (c5-values) u5) (same5-words : length c5-words ≡ length c2-words) (same5-floats : length c5-floats ≡ length floats) (same5-values : length c5-values ≡ length values) (u6 : Outcome) (r6 : Val) (is6 : Is T-Outcome.the-row u6 (r6 ∷ [])) (c6-permutation : List ℕ) (c6-firsts : List ℕ) (c6-starts : List ℕ) (c6-groups : List ℕ) (c6-tasks : List ℕ) (c6-top : List ℕ) (c6-words : List ℕ) (c6-floats : List Float) (c6-rows : List ℕ) (c6-values : List Float) (d6 : FactorSettlesPlain (factor (matrix n (input-starts) (input-rows) (input-values)) cap order («list») stop (lentAll (length (permutation)) (length (firsts)) (length (starts)) (length (groups)) (length (tasks)) (length (top)) (length (c5-words)) (length (c5-floats)) (length (rows)) (length updates) (length (c5-values)))) u6 (c6-permutation) (c6-firsts) (c6-starts) (c6-groups) (c6-tasks) (c6-top) (c6-words) (c6-floats) (c6-rows) (c6-values)) (same6-permutation : length c6-permutation ≡ length permutation) (same6-firsts : length c6-firsts ≡ length firsts) (same6-starts : length c6-starts ≡ length starts) (same6-groups : length c6-groups ≡ length groups) (same6-tasks : length c6-tasks ≡ length tasks) (same6-top : length c6-top ≡ length top) (same6-words : length c6-words ≡ length c5-words) (same6-floats : length c6-floats ≡ length c5-floats) (same6-rows : length c6-rows ≡ length rows) (same6-values : length c6-values ≡ length c5-values) (u7 : ℕ) (r7 : Val) (is7 : Is usize u7 (r7 ∷ [])) (d7 : u7 ≡ staleOf (u6 .answer) (length updates)) (ν8-0 : ℕ) (δ8-0 : GName) → ent 𝓤 (onEntry 𝓤 H A f-clear.signature (ν8-0 ∷ [], tt) (fullShare, tt) (ref-updates δ8-0 c2-updates, (u7, tt)) (s-updates ∷ [], (r7 ∷ [], tt))) (C-clear 𝓤 H A mem run .pre (((ν8-0 ∷ [], tt), (fullShare, tt), tt, (ref-updates δ8-0 c2-updates, (u7, tt)), (s-updates ∷ [], (r7 ∷ [], tt))), tt))
     asked8 u1 r1 is1 d1 c2-words c2-updates d2 same2-words same2-updates u3 r3 is3 d3 u4 r4 is4 d4 u5 r5 is5 c5-words c5-floats c5-values d5 same5-words same5-floats same5-values u6 r6 is6 c6-permutation c6-firsts c6-starts c6-groups c6-tasks c6-top c6-words c6-floats c6-rows c6-values d6 same6-permutation same6-firsts same6-starts same6-groups same6-tasks same6-top same6-words same6-floats same6-rows same6-values u7 r7 is7 d7 ν8-0 δ8-0 =
         let need : u7 ≤ length (c2-updates) = stale-fits (u6 .answer) d7 same2-updates in qed W ((‵ (flft (ν8-0 ∷ []) fullShare) ⊛ ‵ ftrue) ∷ ‵ (owns (MutSlice (named 0) (ν8-0 ∷ []) T-Update.the-row ∷ usize ∷ []) (ref-updates δ8-0 c2-updates, (u7, tt)) (s-updates ∷ [], (r7 ∷ [], tt))) ∷ []) ∵ w-says ! need $ w-frame ! $ done !
 
@@ -550,7 +553,7 @@ module _ {M : Type 1} (𝓤 : URA M) (H : Heap 𝓤) (A : Atoms 𝓤) (W : Given
       abbrev dying : List (Item 𝓤)
       dying = ‵ (fdies ty0 l0) ∷ ‵ (fdies ty1 l1) ∷ ‵ (fdies ty2 l2) ∷ ‵ (fdies ty3 l3) ∷ ‵ (fdies ty4 l4) ∷ ‵ (fdies ty5 l5) ∷ ‵ (fdies ty6 l6) ∷ ‵ (fdies ty7 l7) ∷ ‵ (fdies ty8 l8) ∷ ‵ (fdies ty9 l9) ∷ ‵ (fdies ty10 l10) ∷ ‵ (fdies ty11 l11) ∷ ‵ (fdies ty12 l12) ∷ ‵ (fdies ty13 l13) ∷ ‵ (fdies ty14 l14) ∷ ‵ (fdies ty15 l15) ∷ ‵ (fdies ty16 l16) ∷ ‵ (fdies ty17 l17) ∷ ‵ (fdies ty18 l18) ∷ ‵ (fdies ty19 l19) ∷ ‵ (fdies ty20 l20) ∷ ‵ (fdies ty21 l21) ∷ ‵ (fdies ty22 l22) ∷ ‵ (fdies ty23 l23) ∷ ‵ (fdies ty24 l24) ∷ ‵ (fdies ty25 l25) ∷ ‵ (fdies ty26 l26) ∷ ‵ (fdies ty27 l27) ∷ ‵ (fdies ty28 l28) ∷ ‵ (fdies ty29 l29) ∷ ‵ (fdies ty30 l30) ∷ ‵ (fdies ty31 l31) ∷ ‵ (fdies ty32 l32) ∷ ‵ (fdies ty33 l33) ∷ ‵ (fdies ty34 l34) ∷ ‵ (fdies ty35 l35) ∷ ‵ (fdies ty36 l36) ∷ ‵ (fdies ty37 l37) ∷ ‵ (fdies ty38 l38) ∷ ‵ (fdies ty39 l39) ∷ ‵ (fdies ty40 l40) ∷ ‵ (fdies ty41 l41) ∷ ‵ (fdies ty42 l42) ∷ ‵ (fdies ty43 l43) ∷ ‵ (fdies ty44 l44) ∷ ‵ (fdies ty45 l45) ∷ ‵ (fdies ty46 l46) ∷ ‵ (fdies ty47 l47) ∷ ‵ (fdies ty48 l48) ∷ ‵ (fdies ty49 l49) ∷ ‵ (fdies ty50 l50) ∷ ‵ (fdies ty51 l51) ∷ ‵ (fdies ty52 l52) ∷ ‵ (fdies ty53 l53) ∷ ‵ (fdies ty54 l54) ∷ ‵ (fdies ty55 l55) ∷ ‵ (fdies ty56 l56) ∷ ‵ (fdies ty57 l57) ∷ ‵ (fdies ty58 l58) ∷ ‵ (fdies ty59 l59) ∷ ‵ (fdies ty60 l60) ∷ ‵ (fdies ty61 l61) ∷ ‵ (fdies ty62 l62) ∷ ‵ (fdies ty63 l63) ∷ ‵ (fdies ty64 l64) ∷ ‵ (fdies ty65 l65) ∷ ‵ (fdies ty66 l66) ∷ ‵ (fdies ty67 l67) ∷ ‵ (fdies ty68 l68) ∷ ‵ (fdies ty69 l69) ∷ ‵ (fdies ty70 l70) ∷ ‵ (fdies ty71 l71) ∷ ‵ (fdies ty72 l72) ∷ ‵ (fdies ty73 l73) ∷ ‵ (fdies ty74 l74) ∷ ‵ (fdies ty75 l75) ∷ ‵ (fdies ty76 l76) ∷ ‵ (fdies ty77 l77) ∷ []
 
-      after8 : (u1 : ℕ) (r1 : Val) (is1 : Is usize u1 (r1 ∷ [])) (d1 : u1 ≡ x .supernodes) (c2-words : List ℕ) (c2-updates : List Update) (d2 : LaidOut n u1 (input-starts) (input-rows) (words) (c2-words) (updates) (c2-updates)) (same2-words : length c2-words ≡ length words) (same2-updates : length c2-updates ≡ length updates) (u3 : ℕ) (r3 : Val) (is3 : Is usize u3 (r3 ∷ [])) (d3 : Steps x stop u3) (u4 : ℕ) (r4 : Val) (is4 : Is usize u4 (r4 ∷ [])) (d4 : u4 ≡ x .entries) (u5 : ℕ) (r5 : Val) (is5 : Is usize u5 (r5 ∷ [])) (c5-words : List ℕ) (c5-floats : List Float) (c5-values : List Float) (d5 : RunLeft u3 u1 n (length input-rows) u4 (firsts) (starts) (rows) (c2-words) (c5-words) (floats) (values) (c5-values) u5) (same5-words : length c5-words ≡ length c2-words) (same5-floats : length c5-floats ≡ length floats) (same5-values : length c5-values ≡ length values) (u6 : Outcome) (r6 : Val) (is6 : Is T-Outcome.the-row u6 (r6 ∷ [])) (c6-permutation : List ℕ) (c6-firsts : List ℕ) (c6-starts : List ℕ) (c6-groups : List ℕ) (c6-tasks : List ℕ) (c6-top : List ℕ) (c6-words : List ℕ) (c6-floats : List Float) (c6-rows : List ℕ) (c6-values : List Float) (d6 : FactorSettlesPlain (factor (matrix n (input-starts) (input-rows) (input-values)) cap order («list») stop (lentAll (length (permutation)) (length (firsts)) (length (starts)) (length (groups)) (length (tasks)) (length (top)) (length (c5-words)) (length (c5-floats)) (length (rows)) (length updates) (length (c5-values)))) u6 (c6-permutation) (c6-firsts) (c6-starts) (c6-groups) (c6-tasks) (c6-top) (c6-words) (c6-floats) (c6-rows) (c6-values)) (same6-permutation : length c6-permutation ≡ length permutation) (same6-firsts : length c6-firsts ≡ length firsts) (same6-starts : length c6-starts ≡ length starts) (same6-groups : length c6-groups ≡ length groups) (same6-tasks : length c6-tasks ≡ length tasks) (same6-top : length c6-top ≡ length top) (same6-words : length c6-words ≡ length c5-words) (same6-floats : length c6-floats ≡ length c5-floats) (same6-rows : length c6-rows ≡ length rows) (same6-values : length c6-values ≡ length c5-values) (u7 : ℕ) (r7 : Val) (is7 : Is usize u7 (r7 ∷ [])) (d7 : u7 ≡ staleOf (u6 .answer) (length updates)) (c8-updates : List Update) (d8 : c8-updates ≡ replicate u7 noUpdate ++ drop u7 (c2-updates)) (same8-updates : length c8-updates ≡ length c2-updates) → Sq W (‵ (ShrSlice (named 0) κ-input-starts usize .own (ref-input-starts γ-input-starts input-starts) (sliceVal (b-input-starts, o-input-starts) (length input-starts) ∷ [])) ∷ ‵ (ShrSlice (named 1) κ-input-rows usize .own (ref-input-rows γ-input-rows input-rows) (sliceVal (b-input-rows, o-input-rows) (length input-rows) ∷ [])) ∷ ‵ (ShrSlice (named 2) κ-input-values f64 .own (ref-input-values γ-input-values input-values) (sliceVal (b-input-values, o-input-values) (length input-values) ∷ [])) ∷ ‵ (ShrSlice (named 3) κ-list usize .own (ref-list γ-list «list») (sliceVal (b-list, o-list) (length «list») ∷ [])) ∷ ‵ (MutSlice (named 4) κ-permutation usize .own (ref-permutation γ-permutation c6-permutation) (sliceVal (b-permutation, o-permutation) (length permutation) ∷ [])) ∷ ‵ (MutSlice (named 5) κ-firsts usize .own (ref-firsts γ-firsts c6-firsts) (sliceVal (b-firsts, o-firsts) (length firsts) ∷ [])) ∷ ‵ (MutSlice (named 6) κ-starts usize .own (ref-starts γ-starts c6-starts) (sliceVal (b-starts, o-starts) (length starts) ∷ [])) ∷ ‵ (MutSlice (named 7) κ-groups usize .own (ref-groups γ-groups c6-groups) (sliceVal (b-groups, o-groups) (length groups) ∷ [])) ∷ ‵ (MutSlice (named 8) κ-tasks usize .own (ref-tasks γ-tasks c6-tasks) (sliceVal (b-tasks, o-tasks) (length tasks) ∷ [])) ∷ ‵ (MutSlice (named 9) κ-top usize .own (ref-top γ-top c6-top) (sliceVal (b-top, o-top) (length top) ∷ [])) ∷ ‵ (MutSlice (named 10) κ-words usize .own (ref-words γ-words c6-words) (sliceVal (b-words, o-words) (length words) ∷ [])) ∷ ‵ (MutSlice (named 11) κ-floats f64 .own (ref-floats γ-floats c6-floats) (sliceVal (b-floats, o-floats) (length floats) ∷ [])) ∷ ‵ (MutSlice (named 12) κ-rows usize .own (ref-rows γ-rows c6-rows) (sliceVal (b-rows, o-rows) (length rows) ∷ [])) ∷ ‵ (MutSlice (named 13) κ-updates T-Update.the-row .own (ref-updates γ-updates c8-updates) (sliceVal (b-updates, o-updates) (length updates) ∷ [])) ∷ ‵ (MutSlice (named 14) κ-values f64 .own (ref-values γ-values c6-values) (sliceVal (b-values, o-values) (length values) ∷ [])) ∷ ‵ (flft κ-input-starts q-input-starts) ∷ ‵ (flft κ-input-rows q-input-rows) ∷ ‵ (flft κ-input-values q-input-values) ∷ ‵ (flft κ-list q-list) ∷ ‵ (flft κ-permutation q-permutation) ∷ ‵ (flft κ-firsts q-firsts) ∷ ‵ (flft κ-starts q-starts) ∷ ‵ (flft κ-groups q-groups) ∷ ‵ (flft κ-tasks q-tasks) ∷ ‵ (flft κ-top q-top) ∷ ‵ (flft κ-words q-words) ∷ ‵ (flft κ-floats q-floats) ∷ ‵ (flft κ-rows q-rows) ∷ ‵ (flft κ-updates q-updates) ∷ ‵ (flft κ-values q-values) ∷ ‵ (froom ty0 l0 0) ∷ ‵ (fat fullShare ty1 l1 0 m-x) ∷ ‵ (fat fullShare ty2 l2 0 (vint w64 n)) ∷ ‵ (fat fullShare ty3 l3 0 s-input-starts) ∷ ‵ (fat fullShare ty4 l4 0 s-input-rows) ∷ ‵ (fat fullShare ty5 l5 0 s-input-values) ∷ ‵ (fat fullShare ty6 l6 0 (vint w64 cap)) ∷ ‵ (fat fullShare ty7 l7 0 m-order) ∷ ‵ (fat fullShare ty8 l8 0 s-list) ∷ ‵ (fat fullShare ty9 l9 0 m-stop) ∷ ‵ (fat fullShare ty10 l10 0 s-permutation) ∷ ‵ (fat fullShare ty11 l11 0 s-firsts) ∷ ‵ (fat fullShare ty12 l12 0 s-starts) ∷ ‵ (fat fullShare ty13 l13 0 s-groups) ∷ ‵ (fat fullShare ty14 l14 0 s-tasks) ∷ ‵ (fat fullShare ty15 l15 0 s-top) ∷ ‵ (fat fullShare ty16 l16 0 s-words) ∷ ‵ (fat fullShare ty17 l17 0 s-floats) ∷ ‵ (fat fullShare ty18 l18 0 s-rows) ∷ ‵ (fat fullShare ty19 l19 0 s-updates) ∷ ‵ (fat fullShare ty20 l20 0 s-values) ∷ ‵ (fat fullShare ty21 l21 0 (vint w64 (length updates))) ∷ ‵ (fat fullShare ty22 l22 0 r1) ∷ ‵ (fat fullShare ty23 l23 0 r3) ∷ ‵ (fat fullShare ty24 l24 0 r4) ∷ ‵ (fat fullShare ty25 l25 0 (vint w64 (length input-rows))) ∷ ‵ (fat fullShare ty26 l26 0 r5) ∷ ‵ (fat fullShare ty27 l27 0 r6) ∷ ‵ (fat fullShare ty28 l28 0 r7) ∷ ‵ (froom ty29 l29 0) ∷ raw (Packed 𝓤 H A spare2) ∷ raw (Packed 𝓤 H A spare5) ∷ raw (Packed 𝓤 H A spare6) ∷ raw (Packed 𝓤 H A spare8) ∷ raw (Packed 𝓤 H A dying) ∷ []) (runs C Λ En body.t-59 (atRet En Post))
+      after8 : (u1 : ℕ) (r1 : Val) (is1 : Is usize u1 (r1 ∷ [])) (d1 : u1 ≡ x .supernodes) (c2-words : List ℕ) (c2-updates : List Update) (d2 : LaidOut n u1 (input-starts) (input-rows) (words) (c2-words) (updates) (c2-updates)) (same2-words : length c2-words ≡ length words) (same2-updates : length c2-updates ≡ length updates) (u3 : ℕ) (r3 : Val) (is3 : Is usize u3 (r3 ∷ [])) (d3 : Steps x stop u3) (u4 : ℕ) (r4 : Val) (is4 : Is usize u4 (r4 ∷ [])) (d4 : u4 ≡ x .entries) (u5 : Factored) (r5 : Val) (is5 : Is T-Factored.the-row u5 (r5 ∷ [])) (c5-words : List ℕ) (c5-floats : List Float) (c5-values : List Float) (d5 : RunLeft u3 n (length input-rows) u4 (firsts) (starts) (rows) (c2-words) (floats) (values) (c5-values) u5) (same5-words : length c5-words ≡ length c2-words) (same5-floats : length c5-floats ≡ length floats) (same5-values : length c5-values ≡ length values) (u6 : Outcome) (r6 : Val) (is6 : Is T-Outcome.the-row u6 (r6 ∷ [])) (c6-permutation : List ℕ) (c6-firsts : List ℕ) (c6-starts : List ℕ) (c6-groups : List ℕ) (c6-tasks : List ℕ) (c6-top : List ℕ) (c6-words : List ℕ) (c6-floats : List Float) (c6-rows : List ℕ) (c6-values : List Float) (d6 : FactorSettlesPlain (factor (matrix n (input-starts) (input-rows) (input-values)) cap order («list») stop (lentAll (length (permutation)) (length (firsts)) (length (starts)) (length (groups)) (length (tasks)) (length (top)) (length (c5-words)) (length (c5-floats)) (length (rows)) (length updates) (length (c5-values)))) u6 (c6-permutation) (c6-firsts) (c6-starts) (c6-groups) (c6-tasks) (c6-top) (c6-words) (c6-floats) (c6-rows) (c6-values)) (same6-permutation : length c6-permutation ≡ length permutation) (same6-firsts : length c6-firsts ≡ length firsts) (same6-starts : length c6-starts ≡ length starts) (same6-groups : length c6-groups ≡ length groups) (same6-tasks : length c6-tasks ≡ length tasks) (same6-top : length c6-top ≡ length top) (same6-words : length c6-words ≡ length c5-words) (same6-floats : length c6-floats ≡ length c5-floats) (same6-rows : length c6-rows ≡ length rows) (same6-values : length c6-values ≡ length c5-values) (u7 : ℕ) (r7 : Val) (is7 : Is usize u7 (r7 ∷ [])) (d7 : u7 ≡ staleOf (u6 .answer) (length updates)) (c8-updates : List Update) (d8 : c8-updates ≡ replicate u7 noUpdate ++ drop u7 (c2-updates)) (same8-updates : length c8-updates ≡ length c2-updates) → Sq W (‵ (ShrSlice (named 0) κ-input-starts usize .own (ref-input-starts γ-input-starts input-starts) (sliceVal (b-input-starts, o-input-starts) (length input-starts) ∷ [])) ∷ ‵ (ShrSlice (named 1) κ-input-rows usize .own (ref-input-rows γ-input-rows input-rows) (sliceVal (b-input-rows, o-input-rows) (length input-rows) ∷ [])) ∷ ‵ (ShrSlice (named 2) κ-input-values f64 .own (ref-input-values γ-input-values input-values) (sliceVal (b-input-values, o-input-values) (length input-values) ∷ [])) ∷ ‵ (ShrSlice (named 3) κ-list usize .own (ref-list γ-list «list») (sliceVal (b-list, o-list) (length «list») ∷ [])) ∷ ‵ (MutSlice (named 4) κ-permutation usize .own (ref-permutation γ-permutation c6-permutation) (sliceVal (b-permutation, o-permutation) (length permutation) ∷ [])) ∷ ‵ (MutSlice (named 5) κ-firsts usize .own (ref-firsts γ-firsts c6-firsts) (sliceVal (b-firsts, o-firsts) (length firsts) ∷ [])) ∷ ‵ (MutSlice (named 6) κ-starts usize .own (ref-starts γ-starts c6-starts) (sliceVal (b-starts, o-starts) (length starts) ∷ [])) ∷ ‵ (MutSlice (named 7) κ-groups usize .own (ref-groups γ-groups c6-groups) (sliceVal (b-groups, o-groups) (length groups) ∷ [])) ∷ ‵ (MutSlice (named 8) κ-tasks usize .own (ref-tasks γ-tasks c6-tasks) (sliceVal (b-tasks, o-tasks) (length tasks) ∷ [])) ∷ ‵ (MutSlice (named 9) κ-top usize .own (ref-top γ-top c6-top) (sliceVal (b-top, o-top) (length top) ∷ [])) ∷ ‵ (MutSlice (named 10) κ-words usize .own (ref-words γ-words c6-words) (sliceVal (b-words, o-words) (length words) ∷ [])) ∷ ‵ (MutSlice (named 11) κ-floats f64 .own (ref-floats γ-floats c6-floats) (sliceVal (b-floats, o-floats) (length floats) ∷ [])) ∷ ‵ (MutSlice (named 12) κ-rows usize .own (ref-rows γ-rows c6-rows) (sliceVal (b-rows, o-rows) (length rows) ∷ [])) ∷ ‵ (MutSlice (named 13) κ-updates T-Update.the-row .own (ref-updates γ-updates c8-updates) (sliceVal (b-updates, o-updates) (length updates) ∷ [])) ∷ ‵ (MutSlice (named 14) κ-values f64 .own (ref-values γ-values c6-values) (sliceVal (b-values, o-values) (length values) ∷ [])) ∷ ‵ (flft κ-input-starts q-input-starts) ∷ ‵ (flft κ-input-rows q-input-rows) ∷ ‵ (flft κ-input-values q-input-values) ∷ ‵ (flft κ-list q-list) ∷ ‵ (flft κ-permutation q-permutation) ∷ ‵ (flft κ-firsts q-firsts) ∷ ‵ (flft κ-starts q-starts) ∷ ‵ (flft κ-groups q-groups) ∷ ‵ (flft κ-tasks q-tasks) ∷ ‵ (flft κ-top q-top) ∷ ‵ (flft κ-words q-words) ∷ ‵ (flft κ-floats q-floats) ∷ ‵ (flft κ-rows q-rows) ∷ ‵ (flft κ-updates q-updates) ∷ ‵ (flft κ-values q-values) ∷ ‵ (froom ty0 l0 0) ∷ ‵ (fat fullShare ty1 l1 0 m-x) ∷ ‵ (fat fullShare ty2 l2 0 (vint w64 n)) ∷ ‵ (fat fullShare ty3 l3 0 s-input-starts) ∷ ‵ (fat fullShare ty4 l4 0 s-input-rows) ∷ ‵ (fat fullShare ty5 l5 0 s-input-values) ∷ ‵ (fat fullShare ty6 l6 0 (vint w64 cap)) ∷ ‵ (fat fullShare ty7 l7 0 m-order) ∷ ‵ (fat fullShare ty8 l8 0 s-list) ∷ ‵ (fat fullShare ty9 l9 0 m-stop) ∷ ‵ (fat fullShare ty10 l10 0 s-permutation) ∷ ‵ (fat fullShare ty11 l11 0 s-firsts) ∷ ‵ (fat fullShare ty12 l12 0 s-starts) ∷ ‵ (fat fullShare ty13 l13 0 s-groups) ∷ ‵ (fat fullShare ty14 l14 0 s-tasks) ∷ ‵ (fat fullShare ty15 l15 0 s-top) ∷ ‵ (fat fullShare ty16 l16 0 s-words) ∷ ‵ (fat fullShare ty17 l17 0 s-floats) ∷ ‵ (fat fullShare ty18 l18 0 s-rows) ∷ ‵ (fat fullShare ty19 l19 0 s-updates) ∷ ‵ (fat fullShare ty20 l20 0 s-values) ∷ ‵ (fat fullShare ty21 l21 0 (vint w64 (length updates))) ∷ ‵ (fat fullShare ty22 l22 0 r1) ∷ ‵ (fat fullShare ty23 l23 0 r3) ∷ ‵ (fat fullShare ty24 l24 0 r4) ∷ ‵ (fat fullShare ty25 l25 0 (vint w64 (length input-rows))) ∷ ‵ (fat fullShare ty26 l26 0 r5) ∷ ‵ (fat fullShare ty27 l27 0 r6) ∷ ‵ (fat fullShare ty28 l28 0 r7) ∷ ‵ (froom ty29 l29 0) ∷ raw (Packed 𝓤 H A spare2) ∷ raw (Packed 𝓤 H A spare5) ∷ raw (Packed 𝓤 H A spare6) ∷ raw (Packed 𝓤 H A spare8) ∷ raw (Packed 𝓤 H A dying) ∷ []) (runs C Λ En body.t-59 (atRet En Post))
       after8 u1 r1 is1 d1 c2-words c2-updates d2 same2-words same2-updates u3 r3 is3 d3 u4 r4 is4 d4 u5 r5 is5 c5-words c5-floats c5-values d5 same5-words same5-floats same5-values u6 r6 is6 c6-permutation c6-firsts c6-starts c6-groups c6-tasks c6-top c6-words c6-floats c6-rows c6-values d6 same6-permutation same6-firsts same6-starts same6-groups same6-tasks same6-top same6-words same6-floats same6-rows same6-values u7 r7 is7 d7 c8-updates d8 same8-updates =
           w-assigns ! (w-of-opd ! (w-load ! (w-from ! (w-stop !)) (w-look ! 57 refl))) (w-from ! (w-stop !)) (w-init ! 30 refl (LL.lawful T-Outcome.the-type L-Outcome.the-laws 𝓤 H A W .typed u6 _ is6 .0)) $
           w-returns ! (w-look ! 30 refl) $ w-forget ! 30 refl $ w-forget ! 31 refl $ w-forget ! 32 refl $ w-forget ! 33 refl $ w-forget ! 34 refl $ w-forget ! 35 refl $ w-forget ! 36 refl $ w-forget ! 37 refl $ w-forget ! 38 refl $ w-forget ! 39 refl $ w-forget ! 40 refl $ w-forget ! 41 refl $ w-forget ! 42 refl $ w-forget ! 43 refl $ w-forget ! 44 refl $ w-forget ! 45 refl $ w-forget ! 46 refl $ w-forget ! 47 refl $ w-forget ! 48 refl $ w-forget ! 49 refl $ w-forget ! 50 refl $ w-forget ! 51 refl $ w-forget ! 52 refl $ w-forget ! 53 refl $ w-forget ! 54 refl $ w-forget ! 55 refl $ w-forget ! 56 refl $ w-forget ! 57 refl $ w-forget ! 58 refl $
@@ -562,7 +565,7 @@ module _ {M : Type 1} (𝓤 : URA M) (H : Heap 𝓤) (A : Atoms 𝓤) (W : Given
           w-move ! (156 ∷ 0 ∷ 157 ∷ 1 ∷ 158 ∷ 2 ∷ 159 ∷ 3 ∷ 160 ∷ 4 ∷ 161 ∷ 5 ∷ 162 ∷ 6 ∷ 163 ∷ 7 ∷ 164 ∷ 8 ∷ 165 ∷ 9 ∷ 166 ∷ 10 ∷ 167 ∷ 11 ∷ 168 ∷ 12 ∷ 169 ∷ 13 ∷ 170 ∷ 14 ∷ 171 ∷ 15 ∷ 172 ∷ 16 ∷ 173 ∷ 17 ∷ 174 ∷ 18 ∷ 175 ∷ 19 ∷ 176 ∷ 20 ∷ 177 ∷ 21 ∷ 178 ∷ 22 ∷ 179 ∷ 23 ∷ 180 ∷ 24 ∷ 181 ∷ 25 ∷ 182 ∷ 26 ∷ 183 ∷ 27 ∷ 184 ∷ 28 ∷ 185 ∷ 29 ∷ 116 ∷ 30 ∷ 117 ∷ 31 ∷ 118 ∷ 32 ∷ 119 ∷ 33 ∷ 120 ∷ 34 ∷ 121 ∷ 35 ∷ 122 ∷ 36 ∷ 123 ∷ 37 ∷ 124 ∷ 38 ∷ 125 ∷ 39 ∷ 100 ∷ 40 ∷ 101 ∷ 41 ∷ 102 ∷ 42 ∷ 103 ∷ 43 ∷ 104 ∷ 44 ∷ 105 ∷ 45 ∷ 106 ∷ 46 ∷ 107 ∷ 47 ∷ 108 ∷ 48 ∷ 109 ∷ 49 ∷ 110 ∷ 50 ∷ 111 ∷ 51 ∷ 112 ∷ 52 ∷ 113 ∷ 53 ∷ 114 ∷ 54 ∷ 115 ∷ 55 ∷ 80 ∷ 56 ∷ 81 ∷ 57 ∷ 82 ∷ 58 ∷ 83 ∷ 59 ∷ 84 ∷ 60 ∷ 85 ∷ 61 ∷ 86 ∷ 62 ∷ 87 ∷ 63 ∷ 88 ∷ 64 ∷ 89 ∷ 65 ∷ 90 ∷ 66 ∷ 91 ∷ 67 ∷ 92 ∷ 68 ∷ 93 ∷ 69 ∷ 94 ∷ 70 ∷ 95 ∷ 71 ∷ 96 ∷ 72 ∷ 97 ∷ 73 ∷ 98 ∷ 74 ∷ 99 ∷ 75 ∷ 78 ∷ 76 ∷ 79 ∷ 77 ∷ []) $ w-homes-freed ! En $
           w-keep ! (15 ∷ 16 ∷ 17 ∷ 18 ∷ 19 ∷ 20 ∷ 21 ∷ 22 ∷ 23 ∷ 24 ∷ 25 ∷ 26 ∷ 27 ∷ 28 ∷ 29 ∷ 0 ∷ 1 ∷ 2 ∷ 3 ∷ 4 ∷ 5 ∷ 6 ∷ 7 ∷ 8 ∷ 9 ∷ 10 ∷ 11 ∷ 12 ∷ 13 ∷ 14 ∷ []) $ w-by ! (exits u1 r1 is1 d1 c2-words c2-updates d2 same2-words same2-updates u3 r3 is3 d3 u4 r4 is4 d4 u5 r5 is5 c5-words c5-floats c5-values d5 same5-words same5-floats same5-values u6 r6 is6 c6-permutation c6-firsts c6-starts c6-groups c6-tasks c6-top c6-words c6-floats c6-rows c6-values d6 same6-permutation same6-firsts same6-starts same6-groups same6-tasks same6-top same6-words same6-floats same6-rows same6-values u7 r7 is7 d7 c8-updates d8 same8-updates)
 
-      after7 : (u1 : ℕ) (r1 : Val) (is1 : Is usize u1 (r1 ∷ [])) (d1 : u1 ≡ x .supernodes) (c2-words : List ℕ) (c2-updates : List Update) (d2 : LaidOut n u1 (input-starts) (input-rows) (words) (c2-words) (updates) (c2-updates)) (same2-words : length c2-words ≡ length words) (same2-updates : length c2-updates ≡ length updates) (u3 : ℕ) (r3 : Val) (is3 : Is usize u3 (r3 ∷ [])) (d3 : Steps x stop u3) (u4 : ℕ) (r4 : Val) (is4 : Is usize u4 (r4 ∷ [])) (d4 : u4 ≡ x .entries) (u5 : ℕ) (r5 : Val) (is5 : Is usize u5 (r5 ∷ [])) (c5-words : List ℕ) (c5-floats : List Float) (c5-values : List Float) (d5 : RunLeft u3 u1 n (length input-rows) u4 (firsts) (starts) (rows) (c2-words) (c5-words) (floats) (values) (c5-values) u5) (same5-words : length c5-words ≡ length c2-words) (same5-floats : length c5-floats ≡ length floats) (same5-values : length c5-values ≡ length values) (u6 : Outcome) (r6 : Val) (is6 : Is T-Outcome.the-row u6 (r6 ∷ [])) (c6-permutation : List ℕ) (c6-firsts : List ℕ) (c6-starts : List ℕ) (c6-groups : List ℕ) (c6-tasks : List ℕ) (c6-top : List ℕ) (c6-words : List ℕ) (c6-floats : List Float) (c6-rows : List ℕ) (c6-values : List Float) (d6 : FactorSettlesPlain (factor (matrix n (input-starts) (input-rows) (input-values)) cap order («list») stop (lentAll (length (permutation)) (length (firsts)) (length (starts)) (length (groups)) (length (tasks)) (length (top)) (length (c5-words)) (length (c5-floats)) (length (rows)) (length updates) (length (c5-values)))) u6 (c6-permutation) (c6-firsts) (c6-starts) (c6-groups) (c6-tasks) (c6-top) (c6-words) (c6-floats) (c6-rows) (c6-values)) (same6-permutation : length c6-permutation ≡ length permutation) (same6-firsts : length c6-firsts ≡ length firsts) (same6-starts : length c6-starts ≡ length starts) (same6-groups : length c6-groups ≡ length groups) (same6-tasks : length c6-tasks ≡ length tasks) (same6-top : length c6-top ≡ length top) (same6-words : length c6-words ≡ length c5-words) (same6-floats : length c6-floats ≡ length c5-floats) (same6-rows : length c6-rows ≡ length rows) (same6-values : length c6-values ≡ length c5-values) (u7 : ℕ) (r7 : Val) (is7 : Is usize u7 (r7 ∷ [])) (d7 : u7 ≡ staleOf (u6 .answer) (length updates)) → Sq W (‵ (ShrSlice (named 0) κ-input-starts usize .own (ref-input-starts γ-input-starts input-starts) (sliceVal (b-input-starts, o-input-starts) (length input-starts) ∷ [])) ∷ ‵ (ShrSlice (named 1) κ-input-rows usize .own (ref-input-rows γ-input-rows input-rows) (sliceVal (b-input-rows, o-input-rows) (length input-rows) ∷ [])) ∷ ‵ (ShrSlice (named 2) κ-input-values f64 .own (ref-input-values γ-input-values input-values) (sliceVal (b-input-values, o-input-values) (length input-values) ∷ [])) ∷ ‵ (ShrSlice (named 3) κ-list usize .own (ref-list γ-list «list») (sliceVal (b-list, o-list) (length «list») ∷ [])) ∷ ‵ (MutSlice (named 4) κ-permutation usize .own (ref-permutation γ-permutation c6-permutation) (sliceVal (b-permutation, o-permutation) (length permutation) ∷ [])) ∷ ‵ (MutSlice (named 5) κ-firsts usize .own (ref-firsts γ-firsts c6-firsts) (sliceVal (b-firsts, o-firsts) (length firsts) ∷ [])) ∷ ‵ (MutSlice (named 6) κ-starts usize .own (ref-starts γ-starts c6-starts) (sliceVal (b-starts, o-starts) (length starts) ∷ [])) ∷ ‵ (MutSlice (named 7) κ-groups usize .own (ref-groups γ-groups c6-groups) (sliceVal (b-groups, o-groups) (length groups) ∷ [])) ∷ ‵ (MutSlice (named 8) κ-tasks usize .own (ref-tasks γ-tasks c6-tasks) (sliceVal (b-tasks, o-tasks) (length tasks) ∷ [])) ∷ ‵ (MutSlice (named 9) κ-top usize .own (ref-top γ-top c6-top) (sliceVal (b-top, o-top) (length top) ∷ [])) ∷ ‵ (MutSlice (named 10) κ-words usize .own (ref-words γ-words c6-words) (sliceVal (b-words, o-words) (length words) ∷ [])) ∷ ‵ (MutSlice (named 11) κ-floats f64 .own (ref-floats γ-floats c6-floats) (sliceVal (b-floats, o-floats) (length floats) ∷ [])) ∷ ‵ (MutSlice (named 12) κ-rows usize .own (ref-rows γ-rows c6-rows) (sliceVal (b-rows, o-rows) (length rows) ∷ [])) ∷ ‵ (MutSlice (named 13) κ-updates T-Update.the-row .own (ref-updates γ-updates c2-updates) (sliceVal (b-updates, o-updates) (length updates) ∷ [])) ∷ ‵ (MutSlice (named 14) κ-values f64 .own (ref-values γ-values c6-values) (sliceVal (b-values, o-values) (length values) ∷ [])) ∷ ‵ (flft κ-input-starts q-input-starts) ∷ ‵ (flft κ-input-rows q-input-rows) ∷ ‵ (flft κ-input-values q-input-values) ∷ ‵ (flft κ-list q-list) ∷ ‵ (flft κ-permutation q-permutation) ∷ ‵ (flft κ-firsts q-firsts) ∷ ‵ (flft κ-starts q-starts) ∷ ‵ (flft κ-groups q-groups) ∷ ‵ (flft κ-tasks q-tasks) ∷ ‵ (flft κ-top q-top) ∷ ‵ (flft κ-words q-words) ∷ ‵ (flft κ-floats q-floats) ∷ ‵ (flft κ-rows q-rows) ∷ ‵ (flft κ-updates q-updates) ∷ ‵ (flft κ-values q-values) ∷ ‵ (froom ty0 l0 0) ∷ ‵ (fat fullShare ty1 l1 0 m-x) ∷ ‵ (fat fullShare ty2 l2 0 (vint w64 n)) ∷ ‵ (fat fullShare ty3 l3 0 s-input-starts) ∷ ‵ (fat fullShare ty4 l4 0 s-input-rows) ∷ ‵ (fat fullShare ty5 l5 0 s-input-values) ∷ ‵ (fat fullShare ty6 l6 0 (vint w64 cap)) ∷ ‵ (fat fullShare ty7 l7 0 m-order) ∷ ‵ (fat fullShare ty8 l8 0 s-list) ∷ ‵ (fat fullShare ty9 l9 0 m-stop) ∷ ‵ (fat fullShare ty10 l10 0 s-permutation) ∷ ‵ (fat fullShare ty11 l11 0 s-firsts) ∷ ‵ (fat fullShare ty12 l12 0 s-starts) ∷ ‵ (fat fullShare ty13 l13 0 s-groups) ∷ ‵ (fat fullShare ty14 l14 0 s-tasks) ∷ ‵ (fat fullShare ty15 l15 0 s-top) ∷ ‵ (fat fullShare ty16 l16 0 s-words) ∷ ‵ (fat fullShare ty17 l17 0 s-floats) ∷ ‵ (fat fullShare ty18 l18 0 s-rows) ∷ ‵ (fat fullShare ty19 l19 0 s-updates) ∷ ‵ (fat fullShare ty20 l20 0 s-values) ∷ ‵ (fat fullShare ty21 l21 0 (vint w64 (length updates))) ∷ ‵ (fat fullShare ty22 l22 0 r1) ∷ ‵ (fat fullShare ty23 l23 0 r3) ∷ ‵ (fat fullShare ty24 l24 0 r4) ∷ ‵ (fat fullShare ty25 l25 0 (vint w64 (length input-rows))) ∷ ‵ (fat fullShare ty26 l26 0 r5) ∷ ‵ (fat fullShare ty27 l27 0 r6) ∷ ‵ (fat fullShare ty28 l28 0 r7) ∷ ‵ (froom ty29 l29 0) ∷ raw (Packed 𝓤 H A spare2) ∷ raw (Packed 𝓤 H A spare5) ∷ raw (Packed 𝓤 H A spare6) ∷ raw (Packed 𝓤 H A spare8) ∷ raw (Packed 𝓤 H A dying) ∷ []) (runs C Λ En body.t-56 (atRet En Post))
+      after7 : (u1 : ℕ) (r1 : Val) (is1 : Is usize u1 (r1 ∷ [])) (d1 : u1 ≡ x .supernodes) (c2-words : List ℕ) (c2-updates : List Update) (d2 : LaidOut n u1 (input-starts) (input-rows) (words) (c2-words) (updates) (c2-updates)) (same2-words : length c2-words ≡ length words) (same2-updates : length c2-updates ≡ length updates) (u3 : ℕ) (r3 : Val) (is3 : Is usize u3 (r3 ∷ [])) (d3 : Steps x stop u3) (u4 : ℕ) (r4 : Val) (is4 : Is usize u4 (r4 ∷ [])) (d4 : u4 ≡ x .entries) (u5 : Factored) (r5 : Val) (is5 : Is T-Factored.the-row u5 (r5 ∷ [])) (c5-words : List ℕ) (c5-floats : List Float) (c5-values : List Float) (d5 : RunLeft u3 n (length input-rows) u4 (firsts) (starts) (rows) (c2-words) (floats) (values) (c5-values) u5) (same5-words : length c5-words ≡ length c2-words) (same5-floats : length c5-floats ≡ length floats) (same5-values : length c5-values ≡ length values) (u6 : Outcome) (r6 : Val) (is6 : Is T-Outcome.the-row u6 (r6 ∷ [])) (c6-permutation : List ℕ) (c6-firsts : List ℕ) (c6-starts : List ℕ) (c6-groups : List ℕ) (c6-tasks : List ℕ) (c6-top : List ℕ) (c6-words : List ℕ) (c6-floats : List Float) (c6-rows : List ℕ) (c6-values : List Float) (d6 : FactorSettlesPlain (factor (matrix n (input-starts) (input-rows) (input-values)) cap order («list») stop (lentAll (length (permutation)) (length (firsts)) (length (starts)) (length (groups)) (length (tasks)) (length (top)) (length (c5-words)) (length (c5-floats)) (length (rows)) (length updates) (length (c5-values)))) u6 (c6-permutation) (c6-firsts) (c6-starts) (c6-groups) (c6-tasks) (c6-top) (c6-words) (c6-floats) (c6-rows) (c6-values)) (same6-permutation : length c6-permutation ≡ length permutation) (same6-firsts : length c6-firsts ≡ length firsts) (same6-starts : length c6-starts ≡ length starts) (same6-groups : length c6-groups ≡ length groups) (same6-tasks : length c6-tasks ≡ length tasks) (same6-top : length c6-top ≡ length top) (same6-words : length c6-words ≡ length c5-words) (same6-floats : length c6-floats ≡ length c5-floats) (same6-rows : length c6-rows ≡ length rows) (same6-values : length c6-values ≡ length c5-values) (u7 : ℕ) (r7 : Val) (is7 : Is usize u7 (r7 ∷ [])) (d7 : u7 ≡ staleOf (u6 .answer) (length updates)) → Sq W (‵ (ShrSlice (named 0) κ-input-starts usize .own (ref-input-starts γ-input-starts input-starts) (sliceVal (b-input-starts, o-input-starts) (length input-starts) ∷ [])) ∷ ‵ (ShrSlice (named 1) κ-input-rows usize .own (ref-input-rows γ-input-rows input-rows) (sliceVal (b-input-rows, o-input-rows) (length input-rows) ∷ [])) ∷ ‵ (ShrSlice (named 2) κ-input-values f64 .own (ref-input-values γ-input-values input-values) (sliceVal (b-input-values, o-input-values) (length input-values) ∷ [])) ∷ ‵ (ShrSlice (named 3) κ-list usize .own (ref-list γ-list «list») (sliceVal (b-list, o-list) (length «list») ∷ [])) ∷ ‵ (MutSlice (named 4) κ-permutation usize .own (ref-permutation γ-permutation c6-permutation) (sliceVal (b-permutation, o-permutation) (length permutation) ∷ [])) ∷ ‵ (MutSlice (named 5) κ-firsts usize .own (ref-firsts γ-firsts c6-firsts) (sliceVal (b-firsts, o-firsts) (length firsts) ∷ [])) ∷ ‵ (MutSlice (named 6) κ-starts usize .own (ref-starts γ-starts c6-starts) (sliceVal (b-starts, o-starts) (length starts) ∷ [])) ∷ ‵ (MutSlice (named 7) κ-groups usize .own (ref-groups γ-groups c6-groups) (sliceVal (b-groups, o-groups) (length groups) ∷ [])) ∷ ‵ (MutSlice (named 8) κ-tasks usize .own (ref-tasks γ-tasks c6-tasks) (sliceVal (b-tasks, o-tasks) (length tasks) ∷ [])) ∷ ‵ (MutSlice (named 9) κ-top usize .own (ref-top γ-top c6-top) (sliceVal (b-top, o-top) (length top) ∷ [])) ∷ ‵ (MutSlice (named 10) κ-words usize .own (ref-words γ-words c6-words) (sliceVal (b-words, o-words) (length words) ∷ [])) ∷ ‵ (MutSlice (named 11) κ-floats f64 .own (ref-floats γ-floats c6-floats) (sliceVal (b-floats, o-floats) (length floats) ∷ [])) ∷ ‵ (MutSlice (named 12) κ-rows usize .own (ref-rows γ-rows c6-rows) (sliceVal (b-rows, o-rows) (length rows) ∷ [])) ∷ ‵ (MutSlice (named 13) κ-updates T-Update.the-row .own (ref-updates γ-updates c2-updates) (sliceVal (b-updates, o-updates) (length updates) ∷ [])) ∷ ‵ (MutSlice (named 14) κ-values f64 .own (ref-values γ-values c6-values) (sliceVal (b-values, o-values) (length values) ∷ [])) ∷ ‵ (flft κ-input-starts q-input-starts) ∷ ‵ (flft κ-input-rows q-input-rows) ∷ ‵ (flft κ-input-values q-input-values) ∷ ‵ (flft κ-list q-list) ∷ ‵ (flft κ-permutation q-permutation) ∷ ‵ (flft κ-firsts q-firsts) ∷ ‵ (flft κ-starts q-starts) ∷ ‵ (flft κ-groups q-groups) ∷ ‵ (flft κ-tasks q-tasks) ∷ ‵ (flft κ-top q-top) ∷ ‵ (flft κ-words q-words) ∷ ‵ (flft κ-floats q-floats) ∷ ‵ (flft κ-rows q-rows) ∷ ‵ (flft κ-updates q-updates) ∷ ‵ (flft κ-values q-values) ∷ ‵ (froom ty0 l0 0) ∷ ‵ (fat fullShare ty1 l1 0 m-x) ∷ ‵ (fat fullShare ty2 l2 0 (vint w64 n)) ∷ ‵ (fat fullShare ty3 l3 0 s-input-starts) ∷ ‵ (fat fullShare ty4 l4 0 s-input-rows) ∷ ‵ (fat fullShare ty5 l5 0 s-input-values) ∷ ‵ (fat fullShare ty6 l6 0 (vint w64 cap)) ∷ ‵ (fat fullShare ty7 l7 0 m-order) ∷ ‵ (fat fullShare ty8 l8 0 s-list) ∷ ‵ (fat fullShare ty9 l9 0 m-stop) ∷ ‵ (fat fullShare ty10 l10 0 s-permutation) ∷ ‵ (fat fullShare ty11 l11 0 s-firsts) ∷ ‵ (fat fullShare ty12 l12 0 s-starts) ∷ ‵ (fat fullShare ty13 l13 0 s-groups) ∷ ‵ (fat fullShare ty14 l14 0 s-tasks) ∷ ‵ (fat fullShare ty15 l15 0 s-top) ∷ ‵ (fat fullShare ty16 l16 0 s-words) ∷ ‵ (fat fullShare ty17 l17 0 s-floats) ∷ ‵ (fat fullShare ty18 l18 0 s-rows) ∷ ‵ (fat fullShare ty19 l19 0 s-updates) ∷ ‵ (fat fullShare ty20 l20 0 s-values) ∷ ‵ (fat fullShare ty21 l21 0 (vint w64 (length updates))) ∷ ‵ (fat fullShare ty22 l22 0 r1) ∷ ‵ (fat fullShare ty23 l23 0 r3) ∷ ‵ (fat fullShare ty24 l24 0 r4) ∷ ‵ (fat fullShare ty25 l25 0 (vint w64 (length input-rows))) ∷ ‵ (fat fullShare ty26 l26 0 r5) ∷ ‵ (fat fullShare ty27 l27 0 r6) ∷ ‵ (fat fullShare ty28 l28 0 r7) ∷ ‵ (froom ty29 l29 0) ∷ raw (Packed 𝓤 H A spare2) ∷ raw (Packed 𝓤 H A spare5) ∷ raw (Packed 𝓤 H A spare6) ∷ raw (Packed 𝓤 H A spare8) ∷ raw (Packed 𝓤 H A dying) ∷ []) (runs C Λ En body.t-56 (atRet En Post))
       after7 u1 r1 is1 d1 c2-words c2-updates d2 same2-words same2-updates u3 r3 is3 d3 u4 r4 is4 d4 u5 r5 is5 c5-words c5-floats c5-values d5 same5-words same5-floats same5-values u6 r6 is6 c6-permutation c6-firsts c6-starts c6-groups c6-tasks c6-top c6-words c6-floats c6-rows c6-values d6 same6-permutation same6-firsts same6-starts same6-groups same6-tasks same6-top same6-words same6-floats same6-rows same6-values u7 r7 is7 d7 =
           w-move ! (63 ∷ []) $ w-unpack ! (‵ (froom ty76 l76 0) ∷ ‵ (froom ty77 l77 0) ∷ []) $
           w-move ! (2 ∷ 3 ∷ 4 ∷ 5 ∷ 6 ∷ 7 ∷ 8 ∷ 9 ∷ 10 ∷ 11 ∷ 12 ∷ 13 ∷ 14 ∷ 16 ∷ 17 ∷ 18 ∷ 19 ∷ 20 ∷ 21 ∷ 22 ∷ 23 ∷ 24 ∷ 25 ∷ 26 ∷ 27 ∷ 28 ∷ 29 ∷ 31 ∷ 34 ∷ 35 ∷ 36 ∷ 37 ∷ 38 ∷ 39 ∷ 40 ∷ 41 ∷ 42 ∷ 43 ∷ 44 ∷ 45 ∷ 46 ∷ 47 ∷ 48 ∷ 49 ∷ 50 ∷ 52 ∷ 53 ∷ 54 ∷ 55 ∷ 56 ∷ 57 ∷ 58 ∷ 59 ∷ 62 ∷ 63 ∷ 64 ∷ 65 ∷ []) $ w-pack ! (‵ (ShrSlice (named 0) κ-input-starts usize .own (ref-input-starts γ-input-starts input-starts) (sliceVal (b-input-starts, o-input-starts) (length input-starts) ∷ [])) ∷ ‵ (ShrSlice (named 1) κ-input-rows usize .own (ref-input-rows γ-input-rows input-rows) (sliceVal (b-input-rows, o-input-rows) (length input-rows) ∷ [])) ∷ ‵ (ShrSlice (named 2) κ-input-values f64 .own (ref-input-values γ-input-values input-values) (sliceVal (b-input-values, o-input-values) (length input-values) ∷ [])) ∷ ‵ (ShrSlice (named 3) κ-list usize .own (ref-list γ-list «list») (sliceVal (b-list, o-list) (length «list») ∷ [])) ∷ ‵ (MutSlice (named 4) κ-permutation usize .own (ref-permutation γ-permutation c6-permutation) (sliceVal (b-permutation, o-permutation) (length permutation) ∷ [])) ∷ ‵ (MutSlice (named 5) κ-firsts usize .own (ref-firsts γ-firsts c6-firsts) (sliceVal (b-firsts, o-firsts) (length firsts) ∷ [])) ∷ ‵ (MutSlice (named 6) κ-starts usize .own (ref-starts γ-starts c6-starts) (sliceVal (b-starts, o-starts) (length starts) ∷ [])) ∷ ‵ (MutSlice (named 7) κ-groups usize .own (ref-groups γ-groups c6-groups) (sliceVal (b-groups, o-groups) (length groups) ∷ [])) ∷ ‵ (MutSlice (named 8) κ-tasks usize .own (ref-tasks γ-tasks c6-tasks) (sliceVal (b-tasks, o-tasks) (length tasks) ∷ [])) ∷ ‵ (MutSlice (named 9) κ-top usize .own (ref-top γ-top c6-top) (sliceVal (b-top, o-top) (length top) ∷ [])) ∷ ‵ (MutSlice (named 10) κ-words usize .own (ref-words γ-words c6-words) (sliceVal (b-words, o-words) (length words) ∷ [])) ∷ ‵ (MutSlice (named 11) κ-floats f64 .own (ref-floats γ-floats c6-floats) (sliceVal (b-floats, o-floats) (length floats) ∷ [])) ∷ ‵ (MutSlice (named 12) κ-rows usize .own (ref-rows γ-rows c6-rows) (sliceVal (b-rows, o-rows) (length rows) ∷ [])) ∷ ‵ (MutSlice (named 14) κ-values f64 .own (ref-values γ-values c6-values) (sliceVal (b-values, o-values) (length values) ∷ [])) ∷ ‵ (flft κ-input-starts q-input-starts) ∷ ‵ (flft κ-input-rows q-input-rows) ∷ ‵ (flft κ-input-values q-input-values) ∷ ‵ (flft κ-list q-list) ∷ ‵ (flft κ-permutation q-permutation) ∷ ‵ (flft κ-firsts q-firsts) ∷ ‵ (flft κ-starts q-starts) ∷ ‵ (flft κ-groups q-groups) ∷ ‵ (flft κ-tasks q-tasks) ∷ ‵ (flft κ-top q-top) ∷ ‵ (flft κ-words q-words) ∷ ‵ (flft κ-floats q-floats) ∷ ‵ (flft κ-rows q-rows) ∷ ‵ (flft κ-values q-values) ∷ ‵ (fat fullShare ty2 l2 0 (vint w64 n)) ∷ ‵ (fat fullShare ty3 l3 0 s-input-starts) ∷ ‵ (fat fullShare ty4 l4 0 s-input-rows) ∷ ‵ (fat fullShare ty5 l5 0 s-input-values) ∷ ‵ (fat fullShare ty6 l6 0 (vint w64 cap)) ∷ ‵ (fat fullShare ty7 l7 0 m-order) ∷ ‵ (fat fullShare ty8 l8 0 s-list) ∷ ‵ (fat fullShare ty9 l9 0 m-stop) ∷ ‵ (fat fullShare ty10 l10 0 s-permutation) ∷ ‵ (fat fullShare ty11 l11 0 s-firsts) ∷ ‵ (fat fullShare ty12 l12 0 s-starts) ∷ ‵ (fat fullShare ty13 l13 0 s-groups) ∷ ‵ (fat fullShare ty14 l14 0 s-tasks) ∷ ‵ (fat fullShare ty15 l15 0 s-top) ∷ ‵ (fat fullShare ty16 l16 0 s-words) ∷ ‵ (fat fullShare ty17 l17 0 s-floats) ∷ ‵ (fat fullShare ty18 l18 0 s-rows) ∷ ‵ (fat fullShare ty20 l20 0 s-values) ∷ ‵ (fat fullShare ty21 l21 0 (vint w64 (length updates))) ∷ ‵ (fat fullShare ty22 l22 0 r1) ∷ ‵ (fat fullShare ty23 l23 0 r3) ∷ ‵ (fat fullShare ty24 l24 0 r4) ∷ ‵ (fat fullShare ty25 l25 0 (vint w64 (length input-rows))) ∷ ‵ (fat fullShare ty26 l26 0 r5) ∷ ‵ (fat fullShare ty27 l27 0 r6) ∷ raw (Packed 𝓤 H A spare2) ∷ raw (Packed 𝓤 H A spare5) ∷ raw (Packed 𝓤 H A spare6) ∷ raw (Packed 𝓤 H A dying) ∷ []) $
@@ -583,7 +586,7 @@ module _ {M : Type 1} (𝓤 : URA M) (H : Heap 𝓤) (A : Atoms 𝓤) (W : Given
           w-move ! (3 ∷ []) $ w-unpack ! (‵ (ShrSlice (named 0) κ-input-starts usize .own (ref-input-starts γ-input-starts input-starts) (sliceVal (b-input-starts, o-input-starts) (length input-starts) ∷ [])) ∷ ‵ (ShrSlice (named 1) κ-input-rows usize .own (ref-input-rows γ-input-rows input-rows) (sliceVal (b-input-rows, o-input-rows) (length input-rows) ∷ [])) ∷ ‵ (ShrSlice (named 2) κ-input-values f64 .own (ref-input-values γ-input-values input-values) (sliceVal (b-input-values, o-input-values) (length input-values) ∷ [])) ∷ ‵ (ShrSlice (named 3) κ-list usize .own (ref-list γ-list «list») (sliceVal (b-list, o-list) (length «list») ∷ [])) ∷ ‵ (MutSlice (named 4) κ-permutation usize .own (ref-permutation γ-permutation c6-permutation) (sliceVal (b-permutation, o-permutation) (length permutation) ∷ [])) ∷ ‵ (MutSlice (named 5) κ-firsts usize .own (ref-firsts γ-firsts c6-firsts) (sliceVal (b-firsts, o-firsts) (length firsts) ∷ [])) ∷ ‵ (MutSlice (named 6) κ-starts usize .own (ref-starts γ-starts c6-starts) (sliceVal (b-starts, o-starts) (length starts) ∷ [])) ∷ ‵ (MutSlice (named 7) κ-groups usize .own (ref-groups γ-groups c6-groups) (sliceVal (b-groups, o-groups) (length groups) ∷ [])) ∷ ‵ (MutSlice (named 8) κ-tasks usize .own (ref-tasks γ-tasks c6-tasks) (sliceVal (b-tasks, o-tasks) (length tasks) ∷ [])) ∷ ‵ (MutSlice (named 9) κ-top usize .own (ref-top γ-top c6-top) (sliceVal (b-top, o-top) (length top) ∷ [])) ∷ ‵ (MutSlice (named 10) κ-words usize .own (ref-words γ-words c6-words) (sliceVal (b-words, o-words) (length words) ∷ [])) ∷ ‵ (MutSlice (named 11) κ-floats f64 .own (ref-floats γ-floats c6-floats) (sliceVal (b-floats, o-floats) (length floats) ∷ [])) ∷ ‵ (MutSlice (named 12) κ-rows usize .own (ref-rows γ-rows c6-rows) (sliceVal (b-rows, o-rows) (length rows) ∷ [])) ∷ ‵ (MutSlice (named 14) κ-values f64 .own (ref-values γ-values c6-values) (sliceVal (b-values, o-values) (length values) ∷ [])) ∷ ‵ (flft κ-input-starts q-input-starts) ∷ ‵ (flft κ-input-rows q-input-rows) ∷ ‵ (flft κ-input-values q-input-values) ∷ ‵ (flft κ-list q-list) ∷ ‵ (flft κ-permutation q-permutation) ∷ ‵ (flft κ-firsts q-firsts) ∷ ‵ (flft κ-starts q-starts) ∷ ‵ (flft κ-groups q-groups) ∷ ‵ (flft κ-tasks q-tasks) ∷ ‵ (flft κ-top q-top) ∷ ‵ (flft κ-words q-words) ∷ ‵ (flft κ-floats q-floats) ∷ ‵ (flft κ-rows q-rows) ∷ ‵ (flft κ-values q-values) ∷ ‵ (fat fullShare ty2 l2 0 (vint w64 n)) ∷ ‵ (fat fullShare ty3 l3 0 s-input-starts) ∷ ‵ (fat fullShare ty4 l4 0 s-input-rows) ∷ ‵ (fat fullShare ty5 l5 0 s-input-values) ∷ ‵ (fat fullShare ty6 l6 0 (vint w64 cap)) ∷ ‵ (fat fullShare ty7 l7 0 m-order) ∷ ‵ (fat fullShare ty8 l8 0 s-list) ∷ ‵ (fat fullShare ty9 l9 0 m-stop) ∷ ‵ (fat fullShare ty10 l10 0 s-permutation) ∷ ‵ (fat fullShare ty11 l11 0 s-firsts) ∷ ‵ (fat fullShare ty12 l12 0 s-starts) ∷ ‵ (fat fullShare ty13 l13 0 s-groups) ∷ ‵ (fat fullShare ty14 l14 0 s-tasks) ∷ ‵ (fat fullShare ty15 l15 0 s-top) ∷ ‵ (fat fullShare ty16 l16 0 s-words) ∷ ‵ (fat fullShare ty17 l17 0 s-floats) ∷ ‵ (fat fullShare ty18 l18 0 s-rows) ∷ ‵ (fat fullShare ty20 l20 0 s-values) ∷ ‵ (fat fullShare ty21 l21 0 (vint w64 (length updates))) ∷ ‵ (fat fullShare ty22 l22 0 r1) ∷ ‵ (fat fullShare ty23 l23 0 r3) ∷ ‵ (fat fullShare ty24 l24 0 r4) ∷ ‵ (fat fullShare ty25 l25 0 (vint w64 (length input-rows))) ∷ ‵ (fat fullShare ty26 l26 0 r5) ∷ ‵ (fat fullShare ty27 l27 0 r6) ∷ raw (Packed 𝓤 H A spare2) ∷ raw (Packed 𝓤 H A spare5) ∷ raw (Packed 𝓤 H A spare6) ∷ raw (Packed 𝓤 H A dying) ∷ []) $
           w-keep ! (0 ∷ 1 ∷ 2 ∷ 3 ∷ 4 ∷ 5 ∷ 6 ∷ 7 ∷ 8 ∷ 9 ∷ 10 ∷ 11 ∷ 12 ∷ 58 ∷ 13 ∷ 14 ∷ 15 ∷ 16 ∷ 17 ∷ 18 ∷ 19 ∷ 20 ∷ 21 ∷ 22 ∷ 23 ∷ 24 ∷ 25 ∷ 26 ∷ 59 ∷ 27 ∷ 60 ∷ 61 ∷ 28 ∷ 29 ∷ 30 ∷ 31 ∷ 32 ∷ 33 ∷ 34 ∷ 35 ∷ 36 ∷ 37 ∷ 38 ∷ 39 ∷ 40 ∷ 41 ∷ 42 ∷ 43 ∷ 44 ∷ 62 ∷ 45 ∷ 46 ∷ 47 ∷ 48 ∷ 49 ∷ 50 ∷ 51 ∷ 52 ∷ 63 ∷ 64 ∷ 53 ∷ 54 ∷ 55 ∷ 57 ∷ 56 ∷ []) $ after8 u1 r1 is1 d1 c2-words c2-updates d2 same2-words same2-updates u3 r3 is3 d3 u4 r4 is4 d4 u5 r5 is5 c5-words c5-floats c5-values d5 same5-words same5-floats same5-values u6 r6 is6 c6-permutation c6-firsts c6-starts c6-groups c6-tasks c6-top c6-words c6-floats c6-rows c6-values d6 same6-permutation same6-firsts same6-starts same6-groups same6-tasks same6-top same6-words same6-floats same6-rows same6-values u7 r7 is7 d7 (zs8 .0) d8 same8-updates)))))))
 
-      after6 : (u1 : ℕ) (r1 : Val) (is1 : Is usize u1 (r1 ∷ [])) (d1 : u1 ≡ x .supernodes) (c2-words : List ℕ) (c2-updates : List Update) (d2 : LaidOut n u1 (input-starts) (input-rows) (words) (c2-words) (updates) (c2-updates)) (same2-words : length c2-words ≡ length words) (same2-updates : length c2-updates ≡ length updates) (u3 : ℕ) (r3 : Val) (is3 : Is usize u3 (r3 ∷ [])) (d3 : Steps x stop u3) (u4 : ℕ) (r4 : Val) (is4 : Is usize u4 (r4 ∷ [])) (d4 : u4 ≡ x .entries) (u5 : ℕ) (r5 : Val) (is5 : Is usize u5 (r5 ∷ [])) (c5-words : List ℕ) (c5-floats : List Float) (c5-values : List Float) (d5 : RunLeft u3 u1 n (length input-rows) u4 (firsts) (starts) (rows) (c2-words) (c5-words) (floats) (values) (c5-values) u5) (same5-words : length c5-words ≡ length c2-words) (same5-floats : length c5-floats ≡ length floats) (same5-values : length c5-values ≡ length values) (u6 : Outcome) (r6 : Val) (is6 : Is T-Outcome.the-row u6 (r6 ∷ [])) (c6-permutation : List ℕ) (c6-firsts : List ℕ) (c6-starts : List ℕ) (c6-groups : List ℕ) (c6-tasks : List ℕ) (c6-top : List ℕ) (c6-words : List ℕ) (c6-floats : List Float) (c6-rows : List ℕ) (c6-values : List Float) (d6 : FactorSettlesPlain (factor (matrix n (input-starts) (input-rows) (input-values)) cap order («list») stop (lentAll (length (permutation)) (length (firsts)) (length (starts)) (length (groups)) (length (tasks)) (length (top)) (length (c5-words)) (length (c5-floats)) (length (rows)) (length updates) (length (c5-values)))) u6 (c6-permutation) (c6-firsts) (c6-starts) (c6-groups) (c6-tasks) (c6-top) (c6-words) (c6-floats) (c6-rows) (c6-values)) (same6-permutation : length c6-permutation ≡ length permutation) (same6-firsts : length c6-firsts ≡ length firsts) (same6-starts : length c6-starts ≡ length starts) (same6-groups : length c6-groups ≡ length groups) (same6-tasks : length c6-tasks ≡ length tasks) (same6-top : length c6-top ≡ length top) (same6-words : length c6-words ≡ length c5-words) (same6-floats : length c6-floats ≡ length c5-floats) (same6-rows : length c6-rows ≡ length rows) (same6-values : length c6-values ≡ length c5-values) → Sq W (‵ (ShrSlice (named 0) κ-input-starts usize .own (ref-input-starts γ-input-starts input-starts) (sliceVal (b-input-starts, o-input-starts) (length input-starts) ∷ [])) ∷ ‵ (ShrSlice (named 1) κ-input-rows usize .own (ref-input-rows γ-input-rows input-rows) (sliceVal (b-input-rows, o-input-rows) (length input-rows) ∷ [])) ∷ ‵ (ShrSlice (named 2) κ-input-values f64 .own (ref-input-values γ-input-values input-values) (sliceVal (b-input-values, o-input-values) (length input-values) ∷ [])) ∷ ‵ (ShrSlice (named 3) κ-list usize .own (ref-list γ-list «list») (sliceVal (b-list, o-list) (length «list») ∷ [])) ∷ ‵ (MutSlice (named 4) κ-permutation usize .own (ref-permutation γ-permutation c6-permutation) (sliceVal (b-permutation, o-permutation) (length permutation) ∷ [])) ∷ ‵ (MutSlice (named 5) κ-firsts usize .own (ref-firsts γ-firsts c6-firsts) (sliceVal (b-firsts, o-firsts) (length firsts) ∷ [])) ∷ ‵ (MutSlice (named 6) κ-starts usize .own (ref-starts γ-starts c6-starts) (sliceVal (b-starts, o-starts) (length starts) ∷ [])) ∷ ‵ (MutSlice (named 7) κ-groups usize .own (ref-groups γ-groups c6-groups) (sliceVal (b-groups, o-groups) (length groups) ∷ [])) ∷ ‵ (MutSlice (named 8) κ-tasks usize .own (ref-tasks γ-tasks c6-tasks) (sliceVal (b-tasks, o-tasks) (length tasks) ∷ [])) ∷ ‵ (MutSlice (named 9) κ-top usize .own (ref-top γ-top c6-top) (sliceVal (b-top, o-top) (length top) ∷ [])) ∷ ‵ (MutSlice (named 10) κ-words usize .own (ref-words γ-words c6-words) (sliceVal (b-words, o-words) (length words) ∷ [])) ∷ ‵ (MutSlice (named 11) κ-floats f64 .own (ref-floats γ-floats c6-floats) (sliceVal (b-floats, o-floats) (length floats) ∷ [])) ∷ ‵ (MutSlice (named 12) κ-rows usize .own (ref-rows γ-rows c6-rows) (sliceVal (b-rows, o-rows) (length rows) ∷ [])) ∷ ‵ (MutSlice (named 13) κ-updates T-Update.the-row .own (ref-updates γ-updates c2-updates) (sliceVal (b-updates, o-updates) (length updates) ∷ [])) ∷ ‵ (MutSlice (named 14) κ-values f64 .own (ref-values γ-values c6-values) (sliceVal (b-values, o-values) (length values) ∷ [])) ∷ ‵ (flft κ-input-starts q-input-starts) ∷ ‵ (flft κ-input-rows q-input-rows) ∷ ‵ (flft κ-input-values q-input-values) ∷ ‵ (flft κ-list q-list) ∷ ‵ (flft κ-permutation q-permutation) ∷ ‵ (flft κ-firsts q-firsts) ∷ ‵ (flft κ-starts q-starts) ∷ ‵ (flft κ-groups q-groups) ∷ ‵ (flft κ-tasks q-tasks) ∷ ‵ (flft κ-top q-top) ∷ ‵ (flft κ-words q-words) ∷ ‵ (flft κ-floats q-floats) ∷ ‵ (flft κ-rows q-rows) ∷ ‵ (flft κ-updates q-updates) ∷ ‵ (flft κ-values q-values) ∷ ‵ (froom ty0 l0 0) ∷ ‵ (fat fullShare ty1 l1 0 m-x) ∷ ‵ (fat fullShare ty2 l2 0 (vint w64 n)) ∷ ‵ (fat fullShare ty3 l3 0 s-input-starts) ∷ ‵ (fat fullShare ty4 l4 0 s-input-rows) ∷ ‵ (fat fullShare ty5 l5 0 s-input-values) ∷ ‵ (fat fullShare ty6 l6 0 (vint w64 cap)) ∷ ‵ (fat fullShare ty7 l7 0 m-order) ∷ ‵ (fat fullShare ty8 l8 0 s-list) ∷ ‵ (fat fullShare ty9 l9 0 m-stop) ∷ ‵ (fat fullShare ty10 l10 0 s-permutation) ∷ ‵ (fat fullShare ty11 l11 0 s-firsts) ∷ ‵ (fat fullShare ty12 l12 0 s-starts) ∷ ‵ (fat fullShare ty13 l13 0 s-groups) ∷ ‵ (fat fullShare ty14 l14 0 s-tasks) ∷ ‵ (fat fullShare ty15 l15 0 s-top) ∷ ‵ (fat fullShare ty16 l16 0 s-words) ∷ ‵ (fat fullShare ty17 l17 0 s-floats) ∷ ‵ (fat fullShare ty18 l18 0 s-rows) ∷ ‵ (fat fullShare ty19 l19 0 s-updates) ∷ ‵ (fat fullShare ty20 l20 0 s-values) ∷ ‵ (fat fullShare ty21 l21 0 (vint w64 (length updates))) ∷ ‵ (fat fullShare ty22 l22 0 r1) ∷ ‵ (fat fullShare ty23 l23 0 r3) ∷ ‵ (fat fullShare ty24 l24 0 r4) ∷ ‵ (fat fullShare ty25 l25 0 (vint w64 (length input-rows))) ∷ ‵ (fat fullShare ty26 l26 0 r5) ∷ ‵ (fat fullShare ty27 l27 0 r6) ∷ ‵ (froom ty28 l28 0) ∷ ‵ (froom ty29 l29 0) ∷ raw (Packed 𝓤 H A spare2) ∷ raw (Packed 𝓤 H A spare5) ∷ raw (Packed 𝓤 H A spare6) ∷ raw (Packed 𝓤 H A spare8) ∷ raw (Packed 𝓤 H A dying) ∷ []) (runs C Λ En body.t-55 (atRet En Post))
+      after6 : (u1 : ℕ) (r1 : Val) (is1 : Is usize u1 (r1 ∷ [])) (d1 : u1 ≡ x .supernodes) (c2-words : List ℕ) (c2-updates : List Update) (d2 : LaidOut n u1 (input-starts) (input-rows) (words) (c2-words) (updates) (c2-updates)) (same2-words : length c2-words ≡ length words) (same2-updates : length c2-updates ≡ length updates) (u3 : ℕ) (r3 : Val) (is3 : Is usize u3 (r3 ∷ [])) (d3 : Steps x stop u3) (u4 : ℕ) (r4 : Val) (is4 : Is usize u4 (r4 ∷ [])) (d4 : u4 ≡ x .entries) (u5 : Factored) (r5 : Val) (is5 : Is T-Factored.the-row u5 (r5 ∷ [])) (c5-words : List ℕ) (c5-floats : List Float) (c5-values : List Float) (d5 : RunLeft u3 n (length input-rows) u4 (firsts) (starts) (rows) (c2-words) (floats) (values) (c5-values) u5) (same5-words : length c5-words ≡ length c2-words) (same5-floats : length c5-floats ≡ length floats) (same5-values : length c5-values ≡ length values) (u6 : Outcome) (r6 : Val) (is6 : Is T-Outcome.the-row u6 (r6 ∷ [])) (c6-permutation : List ℕ) (c6-firsts : List ℕ) (c6-starts : List ℕ) (c6-groups : List ℕ) (c6-tasks : List ℕ) (c6-top : List ℕ) (c6-words : List ℕ) (c6-floats : List Float) (c6-rows : List ℕ) (c6-values : List Float) (d6 : FactorSettlesPlain (factor (matrix n (input-starts) (input-rows) (input-values)) cap order («list») stop (lentAll (length (permutation)) (length (firsts)) (length (starts)) (length (groups)) (length (tasks)) (length (top)) (length (c5-words)) (length (c5-floats)) (length (rows)) (length updates) (length (c5-values)))) u6 (c6-permutation) (c6-firsts) (c6-starts) (c6-groups) (c6-tasks) (c6-top) (c6-words) (c6-floats) (c6-rows) (c6-values)) (same6-permutation : length c6-permutation ≡ length permutation) (same6-firsts : length c6-firsts ≡ length firsts) (same6-starts : length c6-starts ≡ length starts) (same6-groups : length c6-groups ≡ length groups) (same6-tasks : length c6-tasks ≡ length tasks) (same6-top : length c6-top ≡ length top) (same6-words : length c6-words ≡ length c5-words) (same6-floats : length c6-floats ≡ length c5-floats) (same6-rows : length c6-rows ≡ length rows) (same6-values : length c6-values ≡ length c5-values) → Sq W (‵ (ShrSlice (named 0) κ-input-starts usize .own (ref-input-starts γ-input-starts input-starts) (sliceVal (b-input-starts, o-input-starts) (length input-starts) ∷ [])) ∷ ‵ (ShrSlice (named 1) κ-input-rows usize .own (ref-input-rows γ-input-rows input-rows) (sliceVal (b-input-rows, o-input-rows) (length input-rows) ∷ [])) ∷ ‵ (ShrSlice (named 2) κ-input-values f64 .own (ref-input-values γ-input-values input-values) (sliceVal (b-input-values, o-input-values) (length input-values) ∷ [])) ∷ ‵ (ShrSlice (named 3) κ-list usize .own (ref-list γ-list «list») (sliceVal (b-list, o-list) (length «list») ∷ [])) ∷ ‵ (MutSlice (named 4) κ-permutation usize .own (ref-permutation γ-permutation c6-permutation) (sliceVal (b-permutation, o-permutation) (length permutation) ∷ [])) ∷ ‵ (MutSlice (named 5) κ-firsts usize .own (ref-firsts γ-firsts c6-firsts) (sliceVal (b-firsts, o-firsts) (length firsts) ∷ [])) ∷ ‵ (MutSlice (named 6) κ-starts usize .own (ref-starts γ-starts c6-starts) (sliceVal (b-starts, o-starts) (length starts) ∷ [])) ∷ ‵ (MutSlice (named 7) κ-groups usize .own (ref-groups γ-groups c6-groups) (sliceVal (b-groups, o-groups) (length groups) ∷ [])) ∷ ‵ (MutSlice (named 8) κ-tasks usize .own (ref-tasks γ-tasks c6-tasks) (sliceVal (b-tasks, o-tasks) (length tasks) ∷ [])) ∷ ‵ (MutSlice (named 9) κ-top usize .own (ref-top γ-top c6-top) (sliceVal (b-top, o-top) (length top) ∷ [])) ∷ ‵ (MutSlice (named 10) κ-words usize .own (ref-words γ-words c6-words) (sliceVal (b-words, o-words) (length words) ∷ [])) ∷ ‵ (MutSlice (named 11) κ-floats f64 .own (ref-floats γ-floats c6-floats) (sliceVal (b-floats, o-floats) (length floats) ∷ [])) ∷ ‵ (MutSlice (named 12) κ-rows usize .own (ref-rows γ-rows c6-rows) (sliceVal (b-rows, o-rows) (length rows) ∷ [])) ∷ ‵ (MutSlice (named 13) κ-updates T-Update.the-row .own (ref-updates γ-updates c2-updates) (sliceVal (b-updates, o-updates) (length updates) ∷ [])) ∷ ‵ (MutSlice (named 14) κ-values f64 .own (ref-values γ-values c6-values) (sliceVal (b-values, o-values) (length values) ∷ [])) ∷ ‵ (flft κ-input-starts q-input-starts) ∷ ‵ (flft κ-input-rows q-input-rows) ∷ ‵ (flft κ-input-values q-input-values) ∷ ‵ (flft κ-list q-list) ∷ ‵ (flft κ-permutation q-permutation) ∷ ‵ (flft κ-firsts q-firsts) ∷ ‵ (flft κ-starts q-starts) ∷ ‵ (flft κ-groups q-groups) ∷ ‵ (flft κ-tasks q-tasks) ∷ ‵ (flft κ-top q-top) ∷ ‵ (flft κ-words q-words) ∷ ‵ (flft κ-floats q-floats) ∷ ‵ (flft κ-rows q-rows) ∷ ‵ (flft κ-updates q-updates) ∷ ‵ (flft κ-values q-values) ∷ ‵ (froom ty0 l0 0) ∷ ‵ (fat fullShare ty1 l1 0 m-x) ∷ ‵ (fat fullShare ty2 l2 0 (vint w64 n)) ∷ ‵ (fat fullShare ty3 l3 0 s-input-starts) ∷ ‵ (fat fullShare ty4 l4 0 s-input-rows) ∷ ‵ (fat fullShare ty5 l5 0 s-input-values) ∷ ‵ (fat fullShare ty6 l6 0 (vint w64 cap)) ∷ ‵ (fat fullShare ty7 l7 0 m-order) ∷ ‵ (fat fullShare ty8 l8 0 s-list) ∷ ‵ (fat fullShare ty9 l9 0 m-stop) ∷ ‵ (fat fullShare ty10 l10 0 s-permutation) ∷ ‵ (fat fullShare ty11 l11 0 s-firsts) ∷ ‵ (fat fullShare ty12 l12 0 s-starts) ∷ ‵ (fat fullShare ty13 l13 0 s-groups) ∷ ‵ (fat fullShare ty14 l14 0 s-tasks) ∷ ‵ (fat fullShare ty15 l15 0 s-top) ∷ ‵ (fat fullShare ty16 l16 0 s-words) ∷ ‵ (fat fullShare ty17 l17 0 s-floats) ∷ ‵ (fat fullShare ty18 l18 0 s-rows) ∷ ‵ (fat fullShare ty19 l19 0 s-updates) ∷ ‵ (fat fullShare ty20 l20 0 s-values) ∷ ‵ (fat fullShare ty21 l21 0 (vint w64 (length updates))) ∷ ‵ (fat fullShare ty22 l22 0 r1) ∷ ‵ (fat fullShare ty23 l23 0 r3) ∷ ‵ (fat fullShare ty24 l24 0 r4) ∷ ‵ (fat fullShare ty25 l25 0 (vint w64 (length input-rows))) ∷ ‵ (fat fullShare ty26 l26 0 r5) ∷ ‵ (fat fullShare ty27 l27 0 r6) ∷ ‵ (froom ty28 l28 0) ∷ ‵ (froom ty29 l29 0) ∷ raw (Packed 𝓤 H A spare2) ∷ raw (Packed 𝓤 H A spare5) ∷ raw (Packed 𝓤 H A spare6) ∷ raw (Packed 𝓤 H A spare8) ∷ raw (Packed 𝓤 H A dying) ∷ []) (runs C Λ En body.t-55 (atRet En Post))
       after6 u1 r1 is1 d1 c2-words c2-updates d2 same2-words same2-updates u3 r3 is3 d3 u4 r4 is4 d4 u5 r5 is5 c5-words c5-floats c5-values d5 same5-words same5-floats same5-values u6 r6 is6 c6-permutation c6-firsts c6-starts c6-groups c6-tasks c6-top c6-words c6-floats c6-rows c6-values d6 same6-permutation same6-firsts same6-starts same6-groups same6-tasks same6-top same6-words same6-floats same6-rows same6-values =
           w-move ! (0 ∷ 1 ∷ 2 ∷ 3 ∷ 4 ∷ 5 ∷ 6 ∷ 7 ∷ 8 ∷ 9 ∷ 10 ∷ 11 ∷ 12 ∷ 13 ∷ 14 ∷ 15 ∷ 16 ∷ 17 ∷ 18 ∷ 19 ∷ 20 ∷ 21 ∷ 22 ∷ 23 ∷ 24 ∷ 25 ∷ 26 ∷ 27 ∷ 28 ∷ 29 ∷ 30 ∷ 31 ∷ 32 ∷ 33 ∷ 34 ∷ 35 ∷ 36 ∷ 37 ∷ 38 ∷ 39 ∷ 40 ∷ 41 ∷ 42 ∷ 43 ∷ 44 ∷ 45 ∷ 46 ∷ 47 ∷ 48 ∷ 49 ∷ 50 ∷ 52 ∷ 53 ∷ 54 ∷ 55 ∷ 56 ∷ 59 ∷ 60 ∷ 61 ∷ 62 ∷ 63 ∷ 64 ∷ []) $ w-pack ! (‵ (ShrSlice (named 0) κ-input-starts usize .own (ref-input-starts γ-input-starts input-starts) (sliceVal (b-input-starts, o-input-starts) (length input-starts) ∷ [])) ∷ ‵ (ShrSlice (named 1) κ-input-rows usize .own (ref-input-rows γ-input-rows input-rows) (sliceVal (b-input-rows, o-input-rows) (length input-rows) ∷ [])) ∷ ‵ (ShrSlice (named 2) κ-input-values f64 .own (ref-input-values γ-input-values input-values) (sliceVal (b-input-values, o-input-values) (length input-values) ∷ [])) ∷ ‵ (ShrSlice (named 3) κ-list usize .own (ref-list γ-list «list») (sliceVal (b-list, o-list) (length «list») ∷ [])) ∷ ‵ (MutSlice (named 4) κ-permutation usize .own (ref-permutation γ-permutation c6-permutation) (sliceVal (b-permutation, o-permutation) (length permutation) ∷ [])) ∷ ‵ (MutSlice (named 5) κ-firsts usize .own (ref-firsts γ-firsts c6-firsts) (sliceVal (b-firsts, o-firsts) (length firsts) ∷ [])) ∷ ‵ (MutSlice (named 6) κ-starts usize .own (ref-starts γ-starts c6-starts) (sliceVal (b-starts, o-starts) (length starts) ∷ [])) ∷ ‵ (MutSlice (named 7) κ-groups usize .own (ref-groups γ-groups c6-groups) (sliceVal (b-groups, o-groups) (length groups) ∷ [])) ∷ ‵ (MutSlice (named 8) κ-tasks usize .own (ref-tasks γ-tasks c6-tasks) (sliceVal (b-tasks, o-tasks) (length tasks) ∷ [])) ∷ ‵ (MutSlice (named 9) κ-top usize .own (ref-top γ-top c6-top) (sliceVal (b-top, o-top) (length top) ∷ [])) ∷ ‵ (MutSlice (named 10) κ-words usize .own (ref-words γ-words c6-words) (sliceVal (b-words, o-words) (length words) ∷ [])) ∷ ‵ (MutSlice (named 11) κ-floats f64 .own (ref-floats γ-floats c6-floats) (sliceVal (b-floats, o-floats) (length floats) ∷ [])) ∷ ‵ (MutSlice (named 12) κ-rows usize .own (ref-rows γ-rows c6-rows) (sliceVal (b-rows, o-rows) (length rows) ∷ [])) ∷ ‵ (MutSlice (named 13) κ-updates T-Update.the-row .own (ref-updates γ-updates c2-updates) (sliceVal (b-updates, o-updates) (length updates) ∷ [])) ∷ ‵ (MutSlice (named 14) κ-values f64 .own (ref-values γ-values c6-values) (sliceVal (b-values, o-values) (length values) ∷ [])) ∷ ‵ (flft κ-input-starts q-input-starts) ∷ ‵ (flft κ-input-rows q-input-rows) ∷ ‵ (flft κ-input-values q-input-values) ∷ ‵ (flft κ-list q-list) ∷ ‵ (flft κ-permutation q-permutation) ∷ ‵ (flft κ-firsts q-firsts) ∷ ‵ (flft κ-starts q-starts) ∷ ‵ (flft κ-groups q-groups) ∷ ‵ (flft κ-tasks q-tasks) ∷ ‵ (flft κ-top q-top) ∷ ‵ (flft κ-words q-words) ∷ ‵ (flft κ-floats q-floats) ∷ ‵ (flft κ-rows q-rows) ∷ ‵ (flft κ-updates q-updates) ∷ ‵ (flft κ-values q-values) ∷ ‵ (froom ty0 l0 0) ∷ ‵ (fat fullShare ty1 l1 0 m-x) ∷ ‵ (fat fullShare ty2 l2 0 (vint w64 n)) ∷ ‵ (fat fullShare ty3 l3 0 s-input-starts) ∷ ‵ (fat fullShare ty4 l4 0 s-input-rows) ∷ ‵ (fat fullShare ty5 l5 0 s-input-values) ∷ ‵ (fat fullShare ty6 l6 0 (vint w64 cap)) ∷ ‵ (fat fullShare ty7 l7 0 m-order) ∷ ‵ (fat fullShare ty8 l8 0 s-list) ∷ ‵ (fat fullShare ty9 l9 0 m-stop) ∷ ‵ (fat fullShare ty10 l10 0 s-permutation) ∷ ‵ (fat fullShare ty11 l11 0 s-firsts) ∷ ‵ (fat fullShare ty12 l12 0 s-starts) ∷ ‵ (fat fullShare ty13 l13 0 s-groups) ∷ ‵ (fat fullShare ty14 l14 0 s-tasks) ∷ ‵ (fat fullShare ty15 l15 0 s-top) ∷ ‵ (fat fullShare ty16 l16 0 s-words) ∷ ‵ (fat fullShare ty17 l17 0 s-floats) ∷ ‵ (fat fullShare ty18 l18 0 s-rows) ∷ ‵ (fat fullShare ty19 l19 0 s-updates) ∷ ‵ (fat fullShare ty20 l20 0 s-values) ∷ ‵ (fat fullShare ty22 l22 0 r1) ∷ ‵ (fat fullShare ty23 l23 0 r3) ∷ ‵ (fat fullShare ty24 l24 0 r4) ∷ ‵ (fat fullShare ty25 l25 0 (vint w64 (length input-rows))) ∷ ‵ (fat fullShare ty26 l26 0 r5) ∷ ‵ (froom ty29 l29 0) ∷ raw (Packed 𝓤 H A spare2) ∷ raw (Packed 𝓤 H A spare5) ∷ raw (Packed 𝓤 H A spare6) ∷ raw (Packed 𝓤 H A spare8) ∷ raw (Packed 𝓤 H A dying) ∷ []) $
           w-nothing ! $ w-owned ! usize (Is usize) (uint-makes 𝓤 H A W w64) ((length updates)) _ ((refl, room-updates .0)) $ w-fjoin ! $ w-owned ! T-Outcome.the-row (Is T-Outcome.the-row) (LL.makes T-Outcome.the-type L-Outcome.the-plain 𝓤 H A) u6 _ is6 $ w-fjoin ! $
@@ -599,7 +602,7 @@ module _ {M : Type 1} (𝓤 : URA M) (H : Heap 𝓤) (A : Atoms 𝓤) (W : Given
           w-unpack ! (‵ (ShrSlice (named 0) κ-input-starts usize .own (ref-input-starts γ-input-starts input-starts) (sliceVal (b-input-starts, o-input-starts) (length input-starts) ∷ [])) ∷ ‵ (ShrSlice (named 1) κ-input-rows usize .own (ref-input-rows γ-input-rows input-rows) (sliceVal (b-input-rows, o-input-rows) (length input-rows) ∷ [])) ∷ ‵ (ShrSlice (named 2) κ-input-values f64 .own (ref-input-values γ-input-values input-values) (sliceVal (b-input-values, o-input-values) (length input-values) ∷ [])) ∷ ‵ (ShrSlice (named 3) κ-list usize .own (ref-list γ-list «list») (sliceVal (b-list, o-list) (length «list») ∷ [])) ∷ ‵ (MutSlice (named 4) κ-permutation usize .own (ref-permutation γ-permutation c6-permutation) (sliceVal (b-permutation, o-permutation) (length permutation) ∷ [])) ∷ ‵ (MutSlice (named 5) κ-firsts usize .own (ref-firsts γ-firsts c6-firsts) (sliceVal (b-firsts, o-firsts) (length firsts) ∷ [])) ∷ ‵ (MutSlice (named 6) κ-starts usize .own (ref-starts γ-starts c6-starts) (sliceVal (b-starts, o-starts) (length starts) ∷ [])) ∷ ‵ (MutSlice (named 7) κ-groups usize .own (ref-groups γ-groups c6-groups) (sliceVal (b-groups, o-groups) (length groups) ∷ [])) ∷ ‵ (MutSlice (named 8) κ-tasks usize .own (ref-tasks γ-tasks c6-tasks) (sliceVal (b-tasks, o-tasks) (length tasks) ∷ [])) ∷ ‵ (MutSlice (named 9) κ-top usize .own (ref-top γ-top c6-top) (sliceVal (b-top, o-top) (length top) ∷ [])) ∷ ‵ (MutSlice (named 10) κ-words usize .own (ref-words γ-words c6-words) (sliceVal (b-words, o-words) (length words) ∷ [])) ∷ ‵ (MutSlice (named 11) κ-floats f64 .own (ref-floats γ-floats c6-floats) (sliceVal (b-floats, o-floats) (length floats) ∷ [])) ∷ ‵ (MutSlice (named 12) κ-rows usize .own (ref-rows γ-rows c6-rows) (sliceVal (b-rows, o-rows) (length rows) ∷ [])) ∷ ‵ (MutSlice (named 13) κ-updates T-Update.the-row .own (ref-updates γ-updates c2-updates) (sliceVal (b-updates, o-updates) (length updates) ∷ [])) ∷ ‵ (MutSlice (named 14) κ-values f64 .own (ref-values γ-values c6-values) (sliceVal (b-values, o-values) (length values) ∷ [])) ∷ ‵ (flft κ-input-starts q-input-starts) ∷ ‵ (flft κ-input-rows q-input-rows) ∷ ‵ (flft κ-input-values q-input-values) ∷ ‵ (flft κ-list q-list) ∷ ‵ (flft κ-permutation q-permutation) ∷ ‵ (flft κ-firsts q-firsts) ∷ ‵ (flft κ-starts q-starts) ∷ ‵ (flft κ-groups q-groups) ∷ ‵ (flft κ-tasks q-tasks) ∷ ‵ (flft κ-top q-top) ∷ ‵ (flft κ-words q-words) ∷ ‵ (flft κ-floats q-floats) ∷ ‵ (flft κ-rows q-rows) ∷ ‵ (flft κ-updates q-updates) ∷ ‵ (flft κ-values q-values) ∷ ‵ (froom ty0 l0 0) ∷ ‵ (fat fullShare ty1 l1 0 m-x) ∷ ‵ (fat fullShare ty2 l2 0 (vint w64 n)) ∷ ‵ (fat fullShare ty3 l3 0 s-input-starts) ∷ ‵ (fat fullShare ty4 l4 0 s-input-rows) ∷ ‵ (fat fullShare ty5 l5 0 s-input-values) ∷ ‵ (fat fullShare ty6 l6 0 (vint w64 cap)) ∷ ‵ (fat fullShare ty7 l7 0 m-order) ∷ ‵ (fat fullShare ty8 l8 0 s-list) ∷ ‵ (fat fullShare ty9 l9 0 m-stop) ∷ ‵ (fat fullShare ty10 l10 0 s-permutation) ∷ ‵ (fat fullShare ty11 l11 0 s-firsts) ∷ ‵ (fat fullShare ty12 l12 0 s-starts) ∷ ‵ (fat fullShare ty13 l13 0 s-groups) ∷ ‵ (fat fullShare ty14 l14 0 s-tasks) ∷ ‵ (fat fullShare ty15 l15 0 s-top) ∷ ‵ (fat fullShare ty16 l16 0 s-words) ∷ ‵ (fat fullShare ty17 l17 0 s-floats) ∷ ‵ (fat fullShare ty18 l18 0 s-rows) ∷ ‵ (fat fullShare ty19 l19 0 s-updates) ∷ ‵ (fat fullShare ty20 l20 0 s-values) ∷ ‵ (fat fullShare ty22 l22 0 r1) ∷ ‵ (fat fullShare ty23 l23 0 r3) ∷ ‵ (fat fullShare ty24 l24 0 r4) ∷ ‵ (fat fullShare ty25 l25 0 (vint w64 (length input-rows))) ∷ ‵ (fat fullShare ty26 l26 0 r5) ∷ ‵ (froom ty29 l29 0) ∷ raw (Packed 𝓤 H A spare2) ∷ raw (Packed 𝓤 H A spare5) ∷ raw (Packed 𝓤 H A spare6) ∷ raw (Packed 𝓤 H A spare8) ∷ raw (Packed 𝓤 H A dying) ∷ []) $
           w-keep ! (0 ∷ 1 ∷ 2 ∷ 3 ∷ 4 ∷ 5 ∷ 6 ∷ 7 ∷ 8 ∷ 9 ∷ 10 ∷ 11 ∷ 12 ∷ 13 ∷ 14 ∷ 15 ∷ 16 ∷ 17 ∷ 18 ∷ 19 ∷ 20 ∷ 21 ∷ 22 ∷ 23 ∷ 24 ∷ 25 ∷ 26 ∷ 27 ∷ 28 ∷ 29 ∷ 30 ∷ 31 ∷ 32 ∷ 33 ∷ 34 ∷ 35 ∷ 36 ∷ 37 ∷ 38 ∷ 39 ∷ 40 ∷ 41 ∷ 42 ∷ 43 ∷ 44 ∷ 45 ∷ 46 ∷ 47 ∷ 48 ∷ 49 ∷ 50 ∷ 62 ∷ 51 ∷ 52 ∷ 53 ∷ 54 ∷ 55 ∷ 63 ∷ 64 ∷ 56 ∷ 57 ∷ 58 ∷ 59 ∷ 60 ∷ 61 ∷ []) $ after7 u1 r1 is1 d1 c2-words c2-updates d2 same2-words same2-updates u3 r3 is3 d3 u4 r4 is4 d4 u5 r5 is5 c5-words c5-floats c5-values d5 same5-words same5-floats same5-values u6 r6 is6 c6-permutation c6-firsts c6-starts c6-groups c6-tasks c6-top c6-words c6-floats c6-rows c6-values d6 same6-permutation same6-firsts same6-starts same6-groups same6-tasks same6-top same6-words same6-floats same6-rows same6-values u7 r7 is7 d7)))))
 
-      after5 : (u1 : ℕ) (r1 : Val) (is1 : Is usize u1 (r1 ∷ [])) (d1 : u1 ≡ x .supernodes) (c2-words : List ℕ) (c2-updates : List Update) (d2 : LaidOut n u1 (input-starts) (input-rows) (words) (c2-words) (updates) (c2-updates)) (same2-words : length c2-words ≡ length words) (same2-updates : length c2-updates ≡ length updates) (u3 : ℕ) (r3 : Val) (is3 : Is usize u3 (r3 ∷ [])) (d3 : Steps x stop u3) (u4 : ℕ) (r4 : Val) (is4 : Is usize u4 (r4 ∷ [])) (d4 : u4 ≡ x .entries) (u5 : ℕ) (r5 : Val) (is5 : Is usize u5 (r5 ∷ [])) (c5-words : List ℕ) (c5-floats : List Float) (c5-values : List Float) (d5 : RunLeft u3 u1 n (length input-rows) u4 (firsts) (starts) (rows) (c2-words) (c5-words) (floats) (values) (c5-values) u5) (same5-words : length c5-words ≡ length c2-words) (same5-floats : length c5-floats ≡ length floats) (same5-values : length c5-values ≡ length values) → Sq W (‵ (ShrSlice (named 0) κ-input-starts usize .own (ref-input-starts γ-input-starts input-starts) (sliceVal (b-input-starts, o-input-starts) (length input-starts) ∷ [])) ∷ ‵ (ShrSlice (named 1) κ-input-rows usize .own (ref-input-rows γ-input-rows input-rows) (sliceVal (b-input-rows, o-input-rows) (length input-rows) ∷ [])) ∷ ‵ (ShrSlice (named 2) κ-input-values f64 .own (ref-input-values γ-input-values input-values) (sliceVal (b-input-values, o-input-values) (length input-values) ∷ [])) ∷ ‵ (ShrSlice (named 3) κ-list usize .own (ref-list γ-list «list») (sliceVal (b-list, o-list) (length «list») ∷ [])) ∷ ‵ (MutSlice (named 4) κ-permutation usize .own (ref-permutation γ-permutation permutation) (sliceVal (b-permutation, o-permutation) (length permutation) ∷ [])) ∷ ‵ (MutSlice (named 5) κ-firsts usize .own (ref-firsts γ-firsts firsts) (sliceVal (b-firsts, o-firsts) (length firsts) ∷ [])) ∷ ‵ (MutSlice (named 6) κ-starts usize .own (ref-starts γ-starts starts) (sliceVal (b-starts, o-starts) (length starts) ∷ [])) ∷ ‵ (MutSlice (named 7) κ-groups usize .own (ref-groups γ-groups groups) (sliceVal (b-groups, o-groups) (length groups) ∷ [])) ∷ ‵ (MutSlice (named 8) κ-tasks usize .own (ref-tasks γ-tasks tasks) (sliceVal (b-tasks, o-tasks) (length tasks) ∷ [])) ∷ ‵ (MutSlice (named 9) κ-top usize .own (ref-top γ-top top) (sliceVal (b-top, o-top) (length top) ∷ [])) ∷ ‵ (MutSlice (named 10) κ-words usize .own (ref-words γ-words c5-words) (sliceVal (b-words, o-words) (length words) ∷ [])) ∷ ‵ (MutSlice (named 11) κ-floats f64 .own (ref-floats γ-floats c5-floats) (sliceVal (b-floats, o-floats) (length floats) ∷ [])) ∷ ‵ (MutSlice (named 12) κ-rows usize .own (ref-rows γ-rows rows) (sliceVal (b-rows, o-rows) (length rows) ∷ [])) ∷ ‵ (MutSlice (named 13) κ-updates T-Update.the-row .own (ref-updates γ-updates c2-updates) (sliceVal (b-updates, o-updates) (length updates) ∷ [])) ∷ ‵ (MutSlice (named 14) κ-values f64 .own (ref-values γ-values c5-values) (sliceVal (b-values, o-values) (length values) ∷ [])) ∷ ‵ (flft κ-input-starts q-input-starts) ∷ ‵ (flft κ-input-rows q-input-rows) ∷ ‵ (flft κ-input-values q-input-values) ∷ ‵ (flft κ-list q-list) ∷ ‵ (flft κ-permutation q-permutation) ∷ ‵ (flft κ-firsts q-firsts) ∷ ‵ (flft κ-starts q-starts) ∷ ‵ (flft κ-groups q-groups) ∷ ‵ (flft κ-tasks q-tasks) ∷ ‵ (flft κ-top q-top) ∷ ‵ (flft κ-words q-words) ∷ ‵ (flft κ-floats q-floats) ∷ ‵ (flft κ-rows q-rows) ∷ ‵ (flft κ-updates q-updates) ∷ ‵ (flft κ-values q-values) ∷ ‵ (froom ty0 l0 0) ∷ ‵ (fat fullShare ty1 l1 0 m-x) ∷ ‵ (fat fullShare ty2 l2 0 (vint w64 n)) ∷ ‵ (fat fullShare ty3 l3 0 s-input-starts) ∷ ‵ (fat fullShare ty4 l4 0 s-input-rows) ∷ ‵ (fat fullShare ty5 l5 0 s-input-values) ∷ ‵ (fat fullShare ty6 l6 0 (vint w64 cap)) ∷ ‵ (fat fullShare ty7 l7 0 m-order) ∷ ‵ (fat fullShare ty8 l8 0 s-list) ∷ ‵ (fat fullShare ty9 l9 0 m-stop) ∷ ‵ (fat fullShare ty10 l10 0 s-permutation) ∷ ‵ (fat fullShare ty11 l11 0 s-firsts) ∷ ‵ (fat fullShare ty12 l12 0 s-starts) ∷ ‵ (fat fullShare ty13 l13 0 s-groups) ∷ ‵ (fat fullShare ty14 l14 0 s-tasks) ∷ ‵ (fat fullShare ty15 l15 0 s-top) ∷ ‵ (fat fullShare ty16 l16 0 s-words) ∷ ‵ (fat fullShare ty17 l17 0 s-floats) ∷ ‵ (fat fullShare ty18 l18 0 s-rows) ∷ ‵ (fat fullShare ty19 l19 0 s-updates) ∷ ‵ (fat fullShare ty20 l20 0 s-values) ∷ ‵ (fat fullShare ty21 l21 0 (vint w64 (length updates))) ∷ ‵ (fat fullShare ty22 l22 0 r1) ∷ ‵ (fat fullShare ty23 l23 0 r3) ∷ ‵ (fat fullShare ty24 l24 0 r4) ∷ ‵ (fat fullShare ty25 l25 0 (vint w64 (length input-rows))) ∷ ‵ (fat fullShare ty26 l26 0 r5) ∷ ‵ (froom ty27 l27 0) ∷ ‵ (froom ty28 l28 0) ∷ ‵ (froom ty29 l29 0) ∷ raw (Packed 𝓤 H A spare2) ∷ raw (Packed 𝓤 H A spare5) ∷ raw (Packed 𝓤 H A spare6) ∷ raw (Packed 𝓤 H A spare8) ∷ raw (Packed 𝓤 H A dying) ∷ []) (runs C Λ En body.t-34 (atRet En Post))
+      after5 : (u1 : ℕ) (r1 : Val) (is1 : Is usize u1 (r1 ∷ [])) (d1 : u1 ≡ x .supernodes) (c2-words : List ℕ) (c2-updates : List Update) (d2 : LaidOut n u1 (input-starts) (input-rows) (words) (c2-words) (updates) (c2-updates)) (same2-words : length c2-words ≡ length words) (same2-updates : length c2-updates ≡ length updates) (u3 : ℕ) (r3 : Val) (is3 : Is usize u3 (r3 ∷ [])) (d3 : Steps x stop u3) (u4 : ℕ) (r4 : Val) (is4 : Is usize u4 (r4 ∷ [])) (d4 : u4 ≡ x .entries) (u5 : Factored) (r5 : Val) (is5 : Is T-Factored.the-row u5 (r5 ∷ [])) (c5-words : List ℕ) (c5-floats : List Float) (c5-values : List Float) (d5 : RunLeft u3 n (length input-rows) u4 (firsts) (starts) (rows) (c2-words) (floats) (values) (c5-values) u5) (same5-words : length c5-words ≡ length c2-words) (same5-floats : length c5-floats ≡ length floats) (same5-values : length c5-values ≡ length values) → Sq W (‵ (ShrSlice (named 0) κ-input-starts usize .own (ref-input-starts γ-input-starts input-starts) (sliceVal (b-input-starts, o-input-starts) (length input-starts) ∷ [])) ∷ ‵ (ShrSlice (named 1) κ-input-rows usize .own (ref-input-rows γ-input-rows input-rows) (sliceVal (b-input-rows, o-input-rows) (length input-rows) ∷ [])) ∷ ‵ (ShrSlice (named 2) κ-input-values f64 .own (ref-input-values γ-input-values input-values) (sliceVal (b-input-values, o-input-values) (length input-values) ∷ [])) ∷ ‵ (ShrSlice (named 3) κ-list usize .own (ref-list γ-list «list») (sliceVal (b-list, o-list) (length «list») ∷ [])) ∷ ‵ (MutSlice (named 4) κ-permutation usize .own (ref-permutation γ-permutation permutation) (sliceVal (b-permutation, o-permutation) (length permutation) ∷ [])) ∷ ‵ (MutSlice (named 5) κ-firsts usize .own (ref-firsts γ-firsts firsts) (sliceVal (b-firsts, o-firsts) (length firsts) ∷ [])) ∷ ‵ (MutSlice (named 6) κ-starts usize .own (ref-starts γ-starts starts) (sliceVal (b-starts, o-starts) (length starts) ∷ [])) ∷ ‵ (MutSlice (named 7) κ-groups usize .own (ref-groups γ-groups groups) (sliceVal (b-groups, o-groups) (length groups) ∷ [])) ∷ ‵ (MutSlice (named 8) κ-tasks usize .own (ref-tasks γ-tasks tasks) (sliceVal (b-tasks, o-tasks) (length tasks) ∷ [])) ∷ ‵ (MutSlice (named 9) κ-top usize .own (ref-top γ-top top) (sliceVal (b-top, o-top) (length top) ∷ [])) ∷ ‵ (MutSlice (named 10) κ-words usize .own (ref-words γ-words c5-words) (sliceVal (b-words, o-words) (length words) ∷ [])) ∷ ‵ (MutSlice (named 11) κ-floats f64 .own (ref-floats γ-floats c5-floats) (sliceVal (b-floats, o-floats) (length floats) ∷ [])) ∷ ‵ (MutSlice (named 12) κ-rows usize .own (ref-rows γ-rows rows) (sliceVal (b-rows, o-rows) (length rows) ∷ [])) ∷ ‵ (MutSlice (named 13) κ-updates T-Update.the-row .own (ref-updates γ-updates c2-updates) (sliceVal (b-updates, o-updates) (length updates) ∷ [])) ∷ ‵ (MutSlice (named 14) κ-values f64 .own (ref-values γ-values c5-values) (sliceVal (b-values, o-values) (length values) ∷ [])) ∷ ‵ (flft κ-input-starts q-input-starts) ∷ ‵ (flft κ-input-rows q-input-rows) ∷ ‵ (flft κ-input-values q-input-values) ∷ ‵ (flft κ-list q-list) ∷ ‵ (flft κ-permutation q-permutation) ∷ ‵ (flft κ-firsts q-firsts) ∷ ‵ (flft κ-starts q-starts) ∷ ‵ (flft κ-groups q-groups) ∷ ‵ (flft κ-tasks q-tasks) ∷ ‵ (flft κ-top q-top) ∷ ‵ (flft κ-words q-words) ∷ ‵ (flft κ-floats q-floats) ∷ ‵ (flft κ-rows q-rows) ∷ ‵ (flft κ-updates q-updates) ∷ ‵ (flft κ-values q-values) ∷ ‵ (froom ty0 l0 0) ∷ ‵ (fat fullShare ty1 l1 0 m-x) ∷ ‵ (fat fullShare ty2 l2 0 (vint w64 n)) ∷ ‵ (fat fullShare ty3 l3 0 s-input-starts) ∷ ‵ (fat fullShare ty4 l4 0 s-input-rows) ∷ ‵ (fat fullShare ty5 l5 0 s-input-values) ∷ ‵ (fat fullShare ty6 l6 0 (vint w64 cap)) ∷ ‵ (fat fullShare ty7 l7 0 m-order) ∷ ‵ (fat fullShare ty8 l8 0 s-list) ∷ ‵ (fat fullShare ty9 l9 0 m-stop) ∷ ‵ (fat fullShare ty10 l10 0 s-permutation) ∷ ‵ (fat fullShare ty11 l11 0 s-firsts) ∷ ‵ (fat fullShare ty12 l12 0 s-starts) ∷ ‵ (fat fullShare ty13 l13 0 s-groups) ∷ ‵ (fat fullShare ty14 l14 0 s-tasks) ∷ ‵ (fat fullShare ty15 l15 0 s-top) ∷ ‵ (fat fullShare ty16 l16 0 s-words) ∷ ‵ (fat fullShare ty17 l17 0 s-floats) ∷ ‵ (fat fullShare ty18 l18 0 s-rows) ∷ ‵ (fat fullShare ty19 l19 0 s-updates) ∷ ‵ (fat fullShare ty20 l20 0 s-values) ∷ ‵ (fat fullShare ty21 l21 0 (vint w64 (length updates))) ∷ ‵ (fat fullShare ty22 l22 0 r1) ∷ ‵ (fat fullShare ty23 l23 0 r3) ∷ ‵ (fat fullShare ty24 l24 0 r4) ∷ ‵ (fat fullShare ty25 l25 0 (vint w64 (length input-rows))) ∷ ‵ (fat fullShare ty26 l26 0 r5) ∷ ‵ (froom ty27 l27 0) ∷ ‵ (froom ty28 l28 0) ∷ ‵ (froom ty29 l29 0) ∷ raw (Packed 𝓤 H A spare2) ∷ raw (Packed 𝓤 H A spare5) ∷ raw (Packed 𝓤 H A spare6) ∷ raw (Packed 𝓤 H A spare8) ∷ raw (Packed 𝓤 H A dying) ∷ []) (runs C Λ En body.t-34 (atRet En Post))
       after5 u1 r1 is1 d1 c2-words c2-updates d2 same2-words same2-updates u3 r3 is3 d3 u4 r4 is4 d4 u5 r5 is5 c5-words c5-floats c5-values d5 same5-words same5-floats same5-values =
           w-move ! (62 ∷ []) $ w-unpack ! (‵ (froom ty56 l56 0) ∷ ‵ (froom ty57 l57 0) ∷ ‵ (froom ty58 l58 0) ∷ ‵ (froom ty59 l59 0) ∷ ‵ (froom ty60 l60 0) ∷ ‵ (froom ty61 l61 0) ∷ ‵ (froom ty62 l62 0) ∷ ‵ (froom ty63 l63 0) ∷ ‵ (froom ty64 l64 0) ∷ ‵ (froom ty65 l65 0) ∷ ‵ (froom ty66 l66 0) ∷ ‵ (froom ty67 l67 0) ∷ ‵ (froom ty68 l68 0) ∷ ‵ (froom ty69 l69 0) ∷ ‵ (froom ty70 l70 0) ∷ ‵ (froom ty71 l71 0) ∷ ‵ (froom ty72 l72 0) ∷ ‵ (froom ty73 l73 0) ∷ ‵ (froom ty74 l74 0) ∷ ‵ (froom ty75 l75 0) ∷ []) $
           w-move ! (33 ∷ 48 ∷ 69 ∷ 72 ∷ 73 ∷ 74 ∷ 75 ∷ 78 ∷ 79 ∷ 80 ∷ 81 ∷ 82 ∷ 83 ∷ []) $ w-pack ! (‵ (MutSlice (named 13) κ-updates T-Update.the-row .own (ref-updates γ-updates c2-updates) (sliceVal (b-updates, o-updates) (length updates) ∷ [])) ∷ ‵ (flft κ-updates q-updates) ∷ ‵ (fat fullShare ty19 l19 0 s-updates) ∷ ‵ (fat fullShare ty22 l22 0 r1) ∷ ‵ (fat fullShare ty23 l23 0 r3) ∷ ‵ (fat fullShare ty24 l24 0 r4) ∷ ‵ (fat fullShare ty25 l25 0 (vint w64 (length input-rows))) ∷ ‵ (froom ty28 l28 0) ∷ ‵ (froom ty29 l29 0) ∷ raw (Packed 𝓤 H A spare2) ∷ raw (Packed 𝓤 H A spare5) ∷ raw (Packed 𝓤 H A spare8) ∷ raw (Packed 𝓤 H A dying) ∷ []) $
@@ -630,7 +633,7 @@ module _ {M : Type 1} (𝓤 : URA M) (H : Heap 𝓤) (A : Atoms 𝓤) (W : Given
           w-written ! (‵ (MutSlice (named 11) (ν6-18 ∷ []) f64 .own (ref-floats δ6-18 c5-floats) (s-floats ∷ [])) ∷ ‵ (LentAgain f64 κ-floats (ν6-18 ∷ []) q-floats γ-floats b-floats o-floats δ6-18 c5-floats) ∷ ‵ (flft (ν6-18 ∷ []) fullShare) ∷ ‵ (MutSlice (named 10) (ν6-17 ∷ []) usize .own (ref-words δ6-17 c5-words) (s-words ∷ [])) ∷ ‵ (LentAgain usize κ-words (ν6-17 ∷ []) q-words γ-words b-words o-words δ6-17 c5-words) ∷ ‵ (flft (ν6-17 ∷ []) fullShare) ∷ ‵ (MutSlice (named 9) (ν6-16 ∷ []) usize .own (ref-top δ6-16 top) (s-top ∷ [])) ∷ ‵ (LentAgain usize κ-top (ν6-16 ∷ []) q-top γ-top b-top o-top δ6-16 top) ∷ ‵ (flft (ν6-16 ∷ []) fullShare) ∷ ‵ (MutSlice (named 8) (ν6-15 ∷ []) usize .own (ref-tasks δ6-15 tasks) (s-tasks ∷ [])) ∷ ‵ (LentAgain usize κ-tasks (ν6-15 ∷ []) q-tasks γ-tasks b-tasks o-tasks δ6-15 tasks) ∷ ‵ (flft (ν6-15 ∷ []) fullShare) ∷ ‵ (MutSlice (named 7) (ν6-14 ∷ []) usize .own (ref-groups δ6-14 groups) (s-groups ∷ [])) ∷ ‵ (LentAgain usize κ-groups (ν6-14 ∷ []) q-groups γ-groups b-groups o-groups δ6-14 groups) ∷ ‵ (flft (ν6-14 ∷ []) fullShare) ∷ ‵ (MutSlice (named 6) (ν6-13 ∷ []) usize .own (ref-starts δ6-13 starts) (s-starts ∷ [])) ∷ ‵ (LentAgain usize κ-starts (ν6-13 ∷ []) q-starts γ-starts b-starts o-starts δ6-13 starts) ∷ ‵ (flft (ν6-13 ∷ []) fullShare) ∷ ‵ (MutSlice (named 5) (ν6-12 ∷ []) usize .own (ref-firsts δ6-12 firsts) (s-firsts ∷ [])) ∷ ‵ (LentAgain usize κ-firsts (ν6-12 ∷ []) q-firsts γ-firsts b-firsts o-firsts δ6-12 firsts) ∷ ‵ (flft (ν6-12 ∷ []) fullShare) ∷ ‵ (MutSlice (named 4) (ν6-11 ∷ []) usize .own (ref-permutation δ6-11 permutation) (s-permutation ∷ [])) ∷ ‵ (LentAgain usize κ-permutation (ν6-11 ∷ []) q-permutation γ-permutation b-permutation o-permutation δ6-11 permutation) ∷ ‵ (flft (ν6-11 ∷ []) fullShare) ∷ ‵ (ShrSlice (named 3) κ-list usize .own (ref-list γ-list «list») (sliceVal (b-list, o-list) (length «list») ∷ [])) ∷ ‵ (ShrSlice (named 3) κ-list usize .own (ref-list γ-list «list») (sliceVal (b-list, o-list) (length «list») ∷ [])) ∷ ‵ (ShrSlice (named 2) κ-input-values f64 .own (ref-input-values γ-input-values input-values) (sliceVal (b-input-values, o-input-values) (length input-values) ∷ [])) ∷ ‵ (ShrSlice (named 2) κ-input-values f64 .own (ref-input-values γ-input-values input-values) (sliceVal (b-input-values, o-input-values) (length input-values) ∷ [])) ∷ ‵ (ShrSlice (named 1) κ-input-rows usize .own (ref-input-rows γ-input-rows input-rows) (sliceVal (b-input-rows, o-input-rows) (length input-rows) ∷ [])) ∷ ‵ (ShrSlice (named 1) κ-input-rows usize .own (ref-input-rows γ-input-rows input-rows) (sliceVal (b-input-rows, o-input-rows) (length input-rows) ∷ [])) ∷ ‵ (ShrSlice (named 0) κ-input-starts usize .own (ref-input-starts γ-input-starts input-starts) (sliceVal (b-input-starts, o-input-starts) (length input-starts) ∷ [])) ∷ ‵ (ShrSlice (named 0) κ-input-starts usize .own (ref-input-starts γ-input-starts input-starts) (sliceVal (b-input-starts, o-input-starts) (length input-starts) ∷ [])) ∷ raw (Packed 𝓤 H A (‵ (MutSlice (named 13) κ-updates T-Update.the-row .own (ref-updates γ-updates c2-updates) (sliceVal (b-updates, o-updates) (length updates) ∷ [])) ∷ ‵ (flft κ-updates q-updates) ∷ ‵ (fat fullShare ty19 l19 0 s-updates) ∷ ‵ (fat fullShare ty22 l22 0 r1) ∷ ‵ (fat fullShare ty23 l23 0 r3) ∷ ‵ (fat fullShare ty24 l24 0 r4) ∷ ‵ (fat fullShare ty25 l25 0 (vint w64 (length input-rows))) ∷ ‵ (froom ty28 l28 0) ∷ ‵ (froom ty29 l29 0) ∷ raw (Packed 𝓤 H A spare2) ∷ raw (Packed 𝓤 H A spare5) ∷ raw (Packed 𝓤 H A spare8) ∷ raw (Packed 𝓤 H A dying) ∷ [])) ∷ ‵ (fat fullShare ty56 l56 0 (vptr b-permutation o-permutation)) ∷ ‵ (fat fullShare ty57 l57 0 s-permutation) ∷ ‵ (fat fullShare ty58 l58 0 (vptr b-firsts o-firsts)) ∷ ‵ (fat fullShare ty59 l59 0 s-firsts) ∷ ‵ (fat fullShare ty60 l60 0 (vptr b-starts o-starts)) ∷ ‵ (fat fullShare ty61 l61 0 s-starts) ∷ ‵ (fat fullShare ty62 l62 0 (vptr b-groups o-groups)) ∷ ‵ (fat fullShare ty63 l63 0 s-groups) ∷ ‵ (fat fullShare ty64 l64 0 (vptr b-tasks o-tasks)) ∷ ‵ (fat fullShare ty65 l65 0 s-tasks) ∷ ‵ (fat fullShare ty66 l66 0 (vptr b-top o-top)) ∷ ‵ (fat fullShare ty67 l67 0 s-top) ∷ ‵ (fat fullShare ty68 l68 0 (vptr b-words o-words)) ∷ ‵ (fat fullShare ty69 l69 0 s-words) ∷ ‵ (fat fullShare ty70 l70 0 (vptr b-floats o-floats)) ∷ ‵ (fat fullShare ty71 l71 0 s-floats) ∷ ‵ (fat fullShare ty72 l72 0 (vptr b-rows o-rows)) ∷ ‵ (fat fullShare ty73 l73 0 s-rows) ∷ ‵ (fat fullShare ty74 l74 0 (vptr b-values o-values)) ∷ ‵ (fat fullShare ty75 l75 0 s-values) ∷ ‵ (MutSlice (named 12) κ-rows usize .own (ref-rows γ-rows rows) (sliceVal (b-rows, o-rows) (length rows) ∷ [])) ∷ ‵ (MutSlice (named 14) κ-values f64 .own (ref-values γ-values c5-values) (sliceVal (b-values, o-values) (length values) ∷ [])) ∷ ‵ (flft κ-input-starts q-input-starts) ∷ ‵ (flft κ-input-rows q-input-rows) ∷ ‵ (flft κ-input-values q-input-values) ∷ ‵ (flft κ-list q-list) ∷ ‵ (flft κ-rows q-rows) ∷ ‵ (flft κ-values q-values) ∷ ‵ (froom ty0 l0 0) ∷ ‵ (fat fullShare ty1 l1 0 m-x) ∷ ‵ (fat fullShare ty2 l2 0 (vint w64 n)) ∷ ‵ (fat fullShare ty3 l3 0 s-input-starts) ∷ ‵ (fat fullShare ty4 l4 0 s-input-rows) ∷ ‵ (fat fullShare ty5 l5 0 s-input-values) ∷ ‵ (fat fullShare ty6 l6 0 (vint w64 cap)) ∷ ‵ (fat fullShare ty7 l7 0 m-order) ∷ ‵ (fat fullShare ty8 l8 0 s-list) ∷ ‵ (fat fullShare ty9 l9 0 m-stop) ∷ ‵ (fat fullShare ty10 l10 0 s-permutation) ∷ ‵ (fat fullShare ty11 l11 0 s-firsts) ∷ ‵ (fat fullShare ty12 l12 0 s-starts) ∷ ‵ (fat fullShare ty13 l13 0 s-groups) ∷ ‵ (fat fullShare ty14 l14 0 s-tasks) ∷ ‵ (fat fullShare ty15 l15 0 s-top) ∷ ‵ (fat fullShare ty16 l16 0 s-words) ∷ ‵ (fat fullShare ty17 l17 0 s-floats) ∷ ‵ (fat fullShare ty18 l18 0 s-rows) ∷ ‵ (fat fullShare ty20 l20 0 s-values) ∷ ‵ (fat fullShare ty21 l21 0 (vint w64 (length updates))) ∷ ‵ (fat fullShare ty26 l26 0 r5) ∷ ‵ (froom ty27 l27 0) ∷ []) $
           w-move ! (53 ∷ 59 ∷ []) $ w-lend ! tt usize κ-rows q-rows γ-rows b-rows o-rows (named 12) (named 12) rows (length rows) refl (λ ν6-19 δ6-19.
           w-move ! (56 ∷ 61 ∷ []) $ w-lend ! tt f64 κ-values q-values γ-values b-values o-values (named 14) (named 13) c5-values (length values) same5-values (λ ν6-20 δ6-20.
-          w-nothing ! $ w-move ! (1 ∷ 0 ∷ []) $ w-fjoin ! $ w-move ! (3 ∷ 0 ∷ []) $ w-fjoin ! $ w-move ! (5 ∷ 0 ∷ []) $ w-fjoin ! $ w-move ! (7 ∷ 0 ∷ []) $ w-fjoin ! $ w-move ! (9 ∷ 0 ∷ []) $ w-fjoin ! $ w-move ! (11 ∷ 0 ∷ []) $ w-fjoin ! $ w-move ! (13 ∷ 0 ∷ []) $ w-fjoin ! $ w-move ! (15 ∷ 0 ∷ []) $ w-fjoin ! $ w-move ! (17 ∷ 0 ∷ []) $ w-fjoin ! $ w-move ! (19 ∷ 0 ∷ []) $ w-fjoin ! $ w-owned ! usize (Is usize) (uint-makes 𝓤 H A W w64) ((length updates)) _ ((refl, room-updates .0)) $ w-fjoin ! $ w-owned ! T-Stop.the-row (Is T-Stop.the-row) (EL.makes T-Stop.the-type L-Stop.the-plain 𝓤 H A) stop _ is-stop $ w-fjoin ! $ w-move ! (21 ∷ 0 ∷ []) $ w-fjoin ! $ w-owned ! T-Order.the-row (Is T-Order.the-row) (EL.makes T-Order.the-type L-Order.the-plain 𝓤 H A) order _ is-order $ w-fjoin ! $ w-owned ! usize (Is usize) (uint-makes 𝓤 H A W w64) cap _ ((refl, fits-cap)) $ w-fjoin ! $ w-move ! (22 ∷ 0 ∷ []) $ w-fjoin ! $ w-move ! (23 ∷ 0 ∷ []) $ w-fjoin ! $ w-move ! (24 ∷ 0 ∷ []) $ w-fjoin ! $ w-owned ! usize (Is usize) (uint-makes 𝓤 H A W w64) n _ ((refl, fits-n)) $ w-fjoin ! $ w-owned ! usize (Is usize) (uint-makes 𝓤 H A W w64) u5 _ is5 $ w-fjoin ! $ w-owned ! T-Findings.the-row (Is T-Findings.the-row) (LL.makes T-Findings.the-type L-Findings.the-plain 𝓤 H A) x _ is-x $ w-fjoin ! $
+          w-nothing ! $ w-move ! (1 ∷ 0 ∷ []) $ w-fjoin ! $ w-move ! (3 ∷ 0 ∷ []) $ w-fjoin ! $ w-move ! (5 ∷ 0 ∷ []) $ w-fjoin ! $ w-move ! (7 ∷ 0 ∷ []) $ w-fjoin ! $ w-move ! (9 ∷ 0 ∷ []) $ w-fjoin ! $ w-move ! (11 ∷ 0 ∷ []) $ w-fjoin ! $ w-move ! (13 ∷ 0 ∷ []) $ w-fjoin ! $ w-move ! (15 ∷ 0 ∷ []) $ w-fjoin ! $ w-move ! (17 ∷ 0 ∷ []) $ w-fjoin ! $ w-move ! (19 ∷ 0 ∷ []) $ w-fjoin ! $ w-owned ! usize (Is usize) (uint-makes 𝓤 H A W w64) ((length updates)) _ ((refl, room-updates .0)) $ w-fjoin ! $ w-owned ! T-Stop.the-row (Is T-Stop.the-row) (EL.makes T-Stop.the-type L-Stop.the-plain 𝓤 H A) stop _ is-stop $ w-fjoin ! $ w-move ! (21 ∷ 0 ∷ []) $ w-fjoin ! $ w-owned ! T-Order.the-row (Is T-Order.the-row) (EL.makes T-Order.the-type L-Order.the-plain 𝓤 H A) order _ is-order $ w-fjoin ! $ w-owned ! usize (Is usize) (uint-makes 𝓤 H A W w64) cap _ ((refl, fits-cap)) $ w-fjoin ! $ w-move ! (22 ∷ 0 ∷ []) $ w-fjoin ! $ w-move ! (23 ∷ 0 ∷ []) $ w-fjoin ! $ w-move ! (24 ∷ 0 ∷ []) $ w-fjoin ! $ w-owned ! usize (Is usize) (uint-makes 𝓤 H A W w64) n _ ((refl, fits-n)) $ w-fjoin ! $ w-owned ! T-Factored.the-row (Is T-Factored.the-row) (LL.makes T-Factored.the-type L-Factored.the-plain 𝓤 H A) u5 _ is5 $ w-fjoin ! $ w-owned ! T-Findings.the-row (Is T-Findings.the-row) (LL.makes T-Findings.the-type L-Findings.the-plain 𝓤 H A) x _ is-x $ w-fjoin ! $
           w-nothing ! $ w-move ! (3 ∷ 0 ∷ []) $ w-join ! $ w-move ! (4 ∷ 0 ∷ []) $ w-join ! $ w-move ! (5 ∷ 0 ∷ []) $ w-join ! $ w-move ! (6 ∷ 0 ∷ []) $ w-join ! $ w-move ! (7 ∷ 0 ∷ []) $ w-join ! $ w-move ! (8 ∷ 0 ∷ []) $ w-join ! $ w-move ! (9 ∷ 0 ∷ []) $ w-join ! $ w-move ! (10 ∷ 0 ∷ []) $ w-join ! $ w-move ! (11 ∷ 0 ∷ []) $ w-join ! $ w-move ! (12 ∷ 0 ∷ []) $ w-join ! $ w-move ! (40 ∷ 0 ∷ []) $ w-join ! $ w-move ! (39 ∷ 0 ∷ []) $ w-join ! $ w-move ! (38 ∷ 0 ∷ []) $ w-join ! $ w-move ! (37 ∷ 0 ∷ []) $ w-join ! $
           use2 W (raw (C-finish 𝓤 H A mem run .pre (((κ-input-starts, (κ-input-rows, (κ-input-values, (κ-list, (ν6-11 ∷ [], (ν6-12 ∷ [], (ν6-13 ∷ [], (ν6-14 ∷ [], (ν6-15 ∷ [], (ν6-16 ∷ [], (ν6-17 ∷ [], (ν6-18 ∷ [], (ν6-19 ∷ [], (ν6-20 ∷ [], tt)))))))))))))), (q-input-starts, (q-input-rows, (q-input-values, (q-list, (fullShare, (fullShare, (fullShare, (fullShare, (fullShare, (fullShare, (fullShare, (fullShare, (fullShare, (fullShare, tt)))))))))))))), tt, (x, (u5, (n, (ref-input-starts γ-input-starts input-starts, (ref-input-rows γ-input-rows input-rows, (ref-input-values γ-input-values input-values, (cap, (order, (ref-list γ-list «list», (stop, ((length updates), (ref-permutation δ6-11 permutation, (ref-firsts δ6-12 firsts, (ref-starts δ6-13 starts, (ref-groups δ6-14 groups, (ref-tasks δ6-15 tasks, (ref-top δ6-16 top, (ref-words δ6-17 c5-words, (ref-floats δ6-18 c5-floats, (ref-rows δ6-19 rows, (ref-values δ6-20 c5-values, tt))))))))))))))))))))), (m-x ∷ [], (r5 ∷ [], (vint w64 n ∷ [], (s-input-starts ∷ [], (s-input-rows ∷ [], (s-input-values ∷ [], (vint w64 cap ∷ [], (m-order ∷ [], (s-list ∷ [], (m-stop ∷ [], (vint w64 (length updates) ∷ [], (s-permutation ∷ [], (s-firsts ∷ [], (s-starts ∷ [], (s-groups ∷ [], (s-tasks ∷ [], (s-top ∷ [], (s-words ∷ [], (s-floats ∷ [], (s-rows ∷ [], (s-values ∷ [], tt)))))))))))))))))))))), tt))) (asked6 u1 r1 is1 d1 c2-words c2-updates d2 same2-words same2-updates u3 r3 is3 d3 u4 r4 is4 d4 u5 r5 is5 c5-words c5-floats c5-values d5 same5-words same5-floats same5-values ν6-11 δ6-11 ν6-12 δ6-12 ν6-13 δ6-13 ν6-14 δ6-14 ν6-15 δ6-15 ν6-16 δ6-16 ν6-17 δ6-17 ν6-18 δ6-18 ν6-19 δ6-19 ν6-20 δ6-20) $
           w-calls-at ! fm (C-finish 𝓤 H A mem run) known-finish (((κ-input-starts, (κ-input-rows, (κ-input-values, (κ-list, (ν6-11 ∷ [], (ν6-12 ∷ [], (ν6-13 ∷ [], (ν6-14 ∷ [], (ν6-15 ∷ [], (ν6-16 ∷ [], (ν6-17 ∷ [], (ν6-18 ∷ [], (ν6-19 ∷ [], (ν6-20 ∷ [], tt)))))))))))))), (q-input-starts, (q-input-rows, (q-input-values, (q-list, (fullShare, (fullShare, (fullShare, (fullShare, (fullShare, (fullShare, (fullShare, (fullShare, (fullShare, (fullShare, tt)))))))))))))), tt, (x, (u5, (n, (ref-input-starts γ-input-starts input-starts, (ref-input-rows γ-input-rows input-rows, (ref-input-values γ-input-values input-values, (cap, (order, (ref-list γ-list «list», (stop, ((length updates), (ref-permutation δ6-11 permutation, (ref-firsts δ6-12 firsts, (ref-starts δ6-13 starts, (ref-groups δ6-14 groups, (ref-tasks δ6-15 tasks, (ref-top δ6-16 top, (ref-words δ6-17 c5-words, (ref-floats δ6-18 c5-floats, (ref-rows δ6-19 rows, (ref-values δ6-20 c5-values, tt))))))))))))))))))))), (m-x ∷ [], (r5 ∷ [], (vint w64 n ∷ [], (s-input-starts ∷ [], (s-input-rows ∷ [], (s-input-values ∷ [], (vint w64 cap ∷ [], (m-order ∷ [], (s-list ∷ [], (m-stop ∷ [], (vint w64 (length updates) ∷ [], (s-permutation ∷ [], (s-firsts ∷ [], (s-starts ∷ [], (s-groups ∷ [], (s-tasks ∷ [], (s-top ∷ [], (s-words ∷ [], (s-floats ∷ [], (s-rows ∷ [], (s-values ∷ [], tt)))))))))))))))))))))), tt) (w-and-then ! (w-load ! (w-from ! (w-stop !)) (w-look ! 37 refl)) (w-and-then ! (w-load ! (w-from ! (w-stop !)) (w-look ! 57 refl)) (w-and-then ! (w-load ! (w-from ! (w-stop !)) (w-look ! 38 refl)) (w-and-then ! (w-load ! (w-from ! (w-stop !)) (w-look ! 39 refl)) (w-and-then ! (w-load ! (w-from ! (w-stop !)) (w-look ! 40 refl)) (w-and-then ! (w-load ! (w-from ! (w-stop !)) (w-look ! 41 refl)) (w-and-then ! (w-load ! (w-from ! (w-stop !)) (w-look ! 42 refl)) (w-and-then ! (w-load ! (w-from ! (w-stop !)) (w-look ! 43 refl)) (w-and-then ! (w-load ! (w-from ! (w-stop !)) (w-look ! 44 refl)) (w-and-then ! (w-load ! (w-from ! (w-stop !)) (w-look ! 45 refl)) (w-and-then ! (w-load ! (w-from ! (w-stop !)) (w-look ! 56 refl)) (w-and-then ! (w-load ! (w-from ! (w-stop !)) (w-look ! 17 refl)) (w-and-then ! (w-load ! (w-from ! (w-stop !)) (w-look ! 19 refl)) (w-and-then ! (w-load ! (w-from ! (w-stop !)) (w-look ! 21 refl)) (w-and-then ! (w-load ! (w-from ! (w-stop !)) (w-look ! 23 refl)) (w-and-then ! (w-load ! (w-from ! (w-stop !)) (w-look ! 25 refl)) (w-and-then ! (w-load ! (w-from ! (w-stop !)) (w-look ! 27 refl)) (w-and-then ! (w-load ! (w-from ! (w-stop !)) (w-look ! 29 refl)) (w-and-then ! (w-load ! (w-from ! (w-stop !)) (w-look ! 31 refl)) (w-and-then ! (w-load ! (w-from ! (w-stop !)) (w-look ! 33 refl)) (w-and-then ! (w-load ! (w-from ! (w-stop !)) (w-look ! 35 refl)) (w-no-more !)))))))))))))))))))))) (λ r6.
@@ -684,10 +687,10 @@ module _ {M : Type 1} (𝓤 : URA M) (H : Heap 𝓤) (A : Atoms 𝓤) (W : Given
           w-nothing ! $ w-move ! (3 ∷ 0 ∷ []) $ w-join ! $ w-move ! (4 ∷ 0 ∷ []) $ w-join ! $ w-move ! (5 ∷ 0 ∷ []) $ w-join ! $ w-move ! (6 ∷ 0 ∷ []) $ w-join ! $ w-move ! (7 ∷ 0 ∷ []) $ w-join ! $ w-move ! (8 ∷ 0 ∷ []) $ w-join ! $ w-move ! (9 ∷ 0 ∷ []) $ w-join ! $ w-move ! (10 ∷ 0 ∷ []) $ w-join ! $
           use2 W (raw (C-run 𝓤 H A mem run .pre (((ν5-5 ∷ [], (ν5-6 ∷ [], (ν5-7 ∷ [], (ν5-8 ∷ [], (ν5-9 ∷ [], (ν5-10 ∷ [], (ν5-11 ∷ [], (ν5-12 ∷ [], tt)))))))), (fullShare, (fullShare, (fullShare, (fullShare, (fullShare, (fullShare, (fullShare, (fullShare, tt)))))))), tt, (u3, (u1, (n, ((length input-rows), (u4, (ref-firsts δ5-5 firsts, (ref-starts δ5-6 starts, (ref-rows δ5-7 rows, (ref-groups δ5-8 groups, (ref-updates δ5-9 c2-updates, (ref-words δ5-10 c2-words, (ref-floats δ5-11 floats, (ref-values δ5-12 values, tt))))))))))))), (r3 ∷ [], (r1 ∷ [], (vint w64 n ∷ [], (vint w64 (length input-rows) ∷ [], (r4 ∷ [], (s-firsts ∷ [], (s-starts ∷ [], (s-rows ∷ [], (s-groups ∷ [], (s-updates ∷ [], (s-words ∷ [], (s-floats ∷ [], (s-values ∷ [], tt)))))))))))))), tt))) (asked5 u1 r1 is1 d1 c2-words c2-updates d2 same2-words same2-updates u3 r3 is3 d3 u4 r4 is4 d4 ν5-5 δ5-5 ν5-6 δ5-6 ν5-7 δ5-7 ν5-8 δ5-8 ν5-9 δ5-9 ν5-10 δ5-10 ν5-11 δ5-11 ν5-12 δ5-12) $
           w-calls-at ! fm (C-run 𝓤 H A mem run) known-run (((ν5-5 ∷ [], (ν5-6 ∷ [], (ν5-7 ∷ [], (ν5-8 ∷ [], (ν5-9 ∷ [], (ν5-10 ∷ [], (ν5-11 ∷ [], (ν5-12 ∷ [], tt)))))))), (fullShare, (fullShare, (fullShare, (fullShare, (fullShare, (fullShare, (fullShare, (fullShare, tt)))))))), tt, (u3, (u1, (n, ((length input-rows), (u4, (ref-firsts δ5-5 firsts, (ref-starts δ5-6 starts, (ref-rows δ5-7 rows, (ref-groups δ5-8 groups, (ref-updates δ5-9 c2-updates, (ref-words δ5-10 c2-words, (ref-floats δ5-11 floats, (ref-values δ5-12 values, tt))))))))))))), (r3 ∷ [], (r1 ∷ [], (vint w64 n ∷ [], (vint w64 (length input-rows) ∷ [], (r4 ∷ [], (s-firsts ∷ [], (s-starts ∷ [], (s-rows ∷ [], (s-groups ∷ [], (s-updates ∷ [], (s-words ∷ [], (s-floats ∷ [], (s-values ∷ [], tt)))))))))))))), tt) (w-and-then ! (w-load ! (w-from ! (w-stop !)) (w-look ! 41 refl)) (w-and-then ! (w-load ! (w-from ! (w-stop !)) (w-look ! 40 refl)) (w-and-then ! (w-load ! (w-from ! (w-stop !)) (w-look ! 30 refl)) (w-and-then ! (w-load ! (w-from ! (w-stop !)) (w-look ! 43 refl)) (w-and-then ! (w-load ! (w-from ! (w-stop !)) (w-look ! 42 refl)) (w-and-then ! (w-load ! (w-from ! (w-stop !)) (w-look ! 11 refl)) (w-and-then ! (w-load ! (w-from ! (w-stop !)) (w-look ! 13 refl)) (w-and-then ! (w-load ! (w-from ! (w-stop !)) (w-look ! 15 refl)) (w-and-then ! (w-load ! (w-from ! (w-stop !)) (w-look ! 17 refl)) (w-and-then ! (w-load ! (w-from ! (w-stop !)) (w-look ! 19 refl)) (w-and-then ! (w-load ! (w-from ! (w-stop !)) (w-look ! 21 refl)) (w-and-then ! (w-load ! (w-from ! (w-stop !)) (w-look ! 23 refl)) (w-and-then ! (w-load ! (w-from ! (w-stop !)) (w-look ! 25 refl)) (w-no-more !)))))))))))))) (λ r5.
-          use1 W (later (some (λ (u′ : ℕ). ((‵ (flft (ν5-5 ∷ []) fullShare) ⊛ ‵ (flft (ν5-6 ∷ []) fullShare) ⊛ ‵ (flft (ν5-7 ∷ []) fullShare) ⊛ ‵ (flft (ν5-8 ∷ []) fullShare) ⊛ ‵ (flft (ν5-9 ∷ []) fullShare) ⊛ ‵ (flft (ν5-10 ∷ []) fullShare) ⊛ ‵ (flft (ν5-11 ∷ []) fullShare) ⊛ ‵ (flft (ν5-12 ∷ []) fullShare) ⊛ ‵ ftrue) ⊛ ‵ (usize .own u′ (r5 ∷ []))) ⊛ raw (ensured 𝓤 H A f-run.ended (f-run.clauses 𝓤 H A mem run) (ν5-5 ∷ [], (ν5-6 ∷ [], (ν5-7 ∷ [], (ν5-8 ∷ [], (ν5-9 ∷ [], (ν5-10 ∷ [], (ν5-11 ∷ [], (ν5-12 ∷ [], tt)))))))) (u3, (u1, (n, ((length input-rows), (u4, (ref-firsts δ5-5 firsts, (ref-starts δ5-6 starts, (ref-rows δ5-7 rows, (ref-groups δ5-8 groups, (ref-updates δ5-9 c2-updates, (ref-words δ5-10 c2-words, (ref-floats δ5-11 floats, (ref-values δ5-12 values, tt))))))))))))) tt u′)))) (id⊢ 𝓤 _) $ w-await ! tt $ w-pick ! (λ u5.
-          w-split ! $ w-move ! (1 ∷ []) $ use1 W (some (λ (zs5 : Unit {0} × (Unit {0} × (Unit {0} × (Unit {0} × (Unit {0} × (Unit {0} × (Unit {0} × (Unit {0} × (Unit {0} × (Unit {0} × (List ℕ × (List Float × (List Float × Unit {0}))))))))))))). ‵ (lasts f-run.ended (ν5-5 ∷ [], (ν5-6 ∷ [], (ν5-7 ∷ [], (ν5-8 ∷ [], (ν5-9 ∷ [], (ν5-10 ∷ [], (ν5-11 ∷ [], (ν5-12 ∷ [], tt)))))))) (u3, (u1, (n, ((length input-rows), (u4, (ref-firsts δ5-5 firsts, (ref-starts δ5-6 starts, (ref-rows δ5-7 rows, (ref-groups δ5-8 groups, (ref-updates δ5-9 c2-updates, (ref-words δ5-10 c2-words, (ref-floats δ5-11 floats, (ref-values δ5-12 values, tt))))))))))))) zs5) ⊛ raw (fact 𝓤 (RunLeft u3 u1 n (length input-rows) u4 (firsts) (starts) (rows) (c2-words) ((zs5 .1 .1 .1 .1 .1 .1 .1 .1 .1 .1 .0)) (floats) (values) ((zs5 .1 .1 .1 .1 .1 .1 .1 .1 .1 .1 .1 .1 .0)) u5)))) (id⊢ 𝓤 _) $ w-pick ! (λ zs5. w-split ! $ w-move ! (1 ∷ []) $ w-heard ! (RunLeft u3 u1 n (length input-rows) u4 (firsts) (starts) (rows) (c2-words) ((zs5 .1 .1 .1 .1 .1 .1 .1 .1 .1 .1 .0)) (floats) (values) ((zs5 .1 .1 .1 .1 .1 .1 .1 .1 .1 .1 .1 .1 .0)) u5) (λ d5.
+          use1 W (later (some (λ (u′ : Factored). ((‵ (flft (ν5-5 ∷ []) fullShare) ⊛ ‵ (flft (ν5-6 ∷ []) fullShare) ⊛ ‵ (flft (ν5-7 ∷ []) fullShare) ⊛ ‵ (flft (ν5-8 ∷ []) fullShare) ⊛ ‵ (flft (ν5-9 ∷ []) fullShare) ⊛ ‵ (flft (ν5-10 ∷ []) fullShare) ⊛ ‵ (flft (ν5-11 ∷ []) fullShare) ⊛ ‵ (flft (ν5-12 ∷ []) fullShare) ⊛ ‵ ftrue) ⊛ ‵ (T-Factored.the-row .own u′ (r5 ∷ []))) ⊛ raw (ensured 𝓤 H A f-run.ended (f-run.clauses 𝓤 H A mem run) (ν5-5 ∷ [], (ν5-6 ∷ [], (ν5-7 ∷ [], (ν5-8 ∷ [], (ν5-9 ∷ [], (ν5-10 ∷ [], (ν5-11 ∷ [], (ν5-12 ∷ [], tt)))))))) (u3, (u1, (n, ((length input-rows), (u4, (ref-firsts δ5-5 firsts, (ref-starts δ5-6 starts, (ref-rows δ5-7 rows, (ref-groups δ5-8 groups, (ref-updates δ5-9 c2-updates, (ref-words δ5-10 c2-words, (ref-floats δ5-11 floats, (ref-values δ5-12 values, tt))))))))))))) tt u′)))) (id⊢ 𝓤 _) $ w-await ! tt $ w-pick ! (λ u5.
+          w-split ! $ w-move ! (1 ∷ []) $ use1 W (some (λ (zs5 : Unit {0} × (Unit {0} × (Unit {0} × (Unit {0} × (Unit {0} × (Unit {0} × (Unit {0} × (Unit {0} × (Unit {0} × (Unit {0} × (List ℕ × (List Float × (List Float × Unit {0}))))))))))))). ‵ (lasts f-run.ended (ν5-5 ∷ [], (ν5-6 ∷ [], (ν5-7 ∷ [], (ν5-8 ∷ [], (ν5-9 ∷ [], (ν5-10 ∷ [], (ν5-11 ∷ [], (ν5-12 ∷ [], tt)))))))) (u3, (u1, (n, ((length input-rows), (u4, (ref-firsts δ5-5 firsts, (ref-starts δ5-6 starts, (ref-rows δ5-7 rows, (ref-groups δ5-8 groups, (ref-updates δ5-9 c2-updates, (ref-words δ5-10 c2-words, (ref-floats δ5-11 floats, (ref-values δ5-12 values, tt))))))))))))) zs5) ⊛ raw (fact 𝓤 (RunLeft u3 n (length input-rows) u4 (firsts) (starts) (rows) (c2-words) (floats) (values) ((zs5 .1 .1 .1 .1 .1 .1 .1 .1 .1 .1 .1 .1 .0)) u5)))) (id⊢ 𝓤 _) $ w-pick ! (λ zs5. w-split ! $ w-move ! (1 ∷ []) $ w-heard ! (RunLeft u3 n (length input-rows) u4 (firsts) (starts) (rows) (c2-words) (floats) (values) ((zs5 .1 .1 .1 .1 .1 .1 .1 .1 .1 .1 .1 .1 .0)) u5) (λ d5.
           w-past ! $ w-past ! $ w-past ! $ w-past ! $ w-past ! $ w-past ! $ w-past ! $ w-past ! $ w-past ! $ w-past ! $ w-last ! (λ same5-words. w-move ! (1 ∷ []) $ w-last ! (λ same5-floats. w-move ! (1 ∷ []) $ w-last ! (λ same5-values. w-move ! (1 ∷ []) $ w-drop ! $
-          w-move ! (3 ∷ []) $ w-split ! $ w-move ! (1 ∷ []) $ w-peeks ! usize (Is usize) (shows 𝓤 H A usize) u5 (r5 ∷ []) (λ is5. w-land ! (w-from ! (w-stop !)) (w-init ! 48 refl (uint-lawful 𝓤 H A W w64 .typed u5 _ is5 .0)) $
+          w-move ! (3 ∷ []) $ w-split ! $ w-move ! (1 ∷ []) $ w-peeks ! T-Factored.the-row (Is T-Factored.the-row) (shows 𝓤 H A T-Factored.the-row) u5 (r5 ∷ []) (λ is5. w-land ! (w-from ! (w-stop !)) (w-init ! 48 refl (LL.lawful T-Factored.the-type L-Factored.the-laws 𝓤 H A W .typed u5 _ is5 .0)) $
           w-drop ! $ w-move ! (0 ∷ 11 ∷ []) $ w-shown ! tt usize κ-firsts q-firsts γ-firsts b-firsts o-firsts (named 5) (named 0) firsts (length firsts) refl ν5-5 room-firsts $
           w-move ! (2 ∷ 12 ∷ []) $ w-shown ! tt usize κ-starts q-starts γ-starts b-starts o-starts (named 6) (named 1) starts (length starts) refl ν5-6 room-starts $
           w-move ! (2 ∷ 13 ∷ []) $ w-shown ! tt usize κ-rows q-rows γ-rows b-rows o-rows (named 12) (named 2) rows (length rows) refl ν5-7 room-rows $

@@ -1,10 +1,8 @@
 -- `structures::answer_in` meets its contract: a walk of its MIR that tools/walk.py wrote, cut after each call. Assumes nothing.
 use Prim.Native.Nat.{_<_, _^_, _≤_, ℕ}
-use Rattle.analyse.specs.Lent.{lentStructure}
 use Rattle.statement.specs.Areas.{noUpdate}
-use Rattle.statement.specs.Calls.{analyse}
+use Rattle.statement.specs.Calls.{Analyses}
 use Rattle.statement.specs.Input.{matrix}
-use Rattle.survey.specs.Settles.{Settles}
 use base.Fml.{GName, Lft, Share, fat, fdies, flft, froom, ftrue}
 use base.Logic.{SProp, emp, ent, fst∗, id⊢, via}
 use contract.Monad.{Fun, fact}
@@ -347,7 +345,7 @@ module _ {M : Type 1} (𝓤 : URA M) (H : Heap 𝓤) (A : Atoms 𝓤) (W : Given
   abbrev ty52 : Ty
   ty52 = sliceTy (tyRef erased imm (tyInt w64))
 
-  exits : (u1 : Update) (r1 : Val) (is1 : Is T-Update.the-row u1 (r1 ∷ [])) (d1 : u1 ≡ noUpdate) (updates : List Update) (made-updates : updates ≡ replicate 65536 u1) (size-updates : length updates ≡ 65536) (u2 : Outcome) (r2 : Val) (is2 : Is T-Outcome.the-row u2 (r2 ∷ [])) (c2-permutation : List ℕ) (c2-firsts : List ℕ) (c2-starts : List ℕ) (c2-groups : List ℕ) (c2-tasks : List ℕ) (c2-top : List ℕ) (c2-words : List ℕ) (c2-rows : List ℕ) (c2-updates : List Update) (d2 : Settles (analyse (matrix n (input-starts) (input-rows) (input-values)) 18446744073709551615 (lentStructure (length (permutation)) (length (firsts)) (length (starts)) (length (groups)) (length (tasks)) (length (top)) (length (words)) (length (rows)) (length (updates)))) u2 (c2-permutation) (c2-firsts) (c2-starts) (c2-groups) (c2-tasks) (c2-top) (c2-words) (c2-rows) (c2-updates)) (same2-permutation : length c2-permutation ≡ length permutation) (same2-firsts : length c2-firsts ≡ length firsts) (same2-starts : length c2-starts ≡ length starts) (same2-groups : length c2-groups ≡ length groups) (same2-tasks : length c2-tasks ≡ length tasks) (same2-top : length c2-top ≡ length top) (same2-words : length c2-words ≡ length words) (same2-rows : length c2-rows ≡ length rows) (same2-updates : length c2-updates ≡ length updates) (u3 : ℕ) (r3 : Val) (is3 : Is usize u3 (r3 ∷ [])) (d3 : u3 ≤ 65536) (u4 : ℕ) (r4 : Val) (is4 : Is usize u4 (r4 ∷ [])) → ent 𝓤 (⋆ 𝓤 H A (‵ (flft κ-input-starts q-input-starts) ∷ ‵ (flft κ-input-rows q-input-rows) ∷ ‵ (flft κ-input-values q-input-values) ∷ ‵ (flft κ-permutation q-permutation) ∷ ‵ (flft κ-firsts q-firsts) ∷ ‵ (flft κ-starts q-starts) ∷ ‵ (flft κ-groups q-groups) ∷ ‵ (flft κ-tasks q-tasks) ∷ ‵ (flft κ-top q-top) ∷ ‵ (flft κ-words q-words) ∷ ‵ (flft κ-rows q-rows) ∷ ‵ (ShrSlice (named 0) κ-input-starts usize .own (ref-input-starts γ-input-starts input-starts) (sliceVal (b-input-starts, o-input-starts) (length input-starts) ∷ [])) ∷ ‵ (ShrSlice (named 1) κ-input-rows usize .own (ref-input-rows γ-input-rows input-rows) (sliceVal (b-input-rows, o-input-rows) (length input-rows) ∷ [])) ∷ ‵ (ShrSlice (named 2) κ-input-values f64 .own (ref-input-values γ-input-values input-values) (sliceVal (b-input-values, o-input-values) (length input-values) ∷ [])) ∷ ‵ (MutSlice (named 3) κ-permutation usize .own (ref-permutation γ-permutation c2-permutation) (sliceVal (b-permutation, o-permutation) (length permutation) ∷ [])) ∷ ‵ (MutSlice (named 4) κ-firsts usize .own (ref-firsts γ-firsts c2-firsts) (sliceVal (b-firsts, o-firsts) (length firsts) ∷ [])) ∷ ‵ (MutSlice (named 5) κ-starts usize .own (ref-starts γ-starts c2-starts) (sliceVal (b-starts, o-starts) (length starts) ∷ [])) ∷ ‵ (MutSlice (named 6) κ-groups usize .own (ref-groups γ-groups c2-groups) (sliceVal (b-groups, o-groups) (length groups) ∷ [])) ∷ ‵ (MutSlice (named 7) κ-tasks usize .own (ref-tasks γ-tasks c2-tasks) (sliceVal (b-tasks, o-tasks) (length tasks) ∷ [])) ∷ ‵ (MutSlice (named 8) κ-top usize .own (ref-top γ-top c2-top) (sliceVal (b-top, o-top) (length top) ∷ [])) ∷ ‵ (MutSlice (named 9) κ-words usize .own (ref-words γ-words c2-words) (sliceVal (b-words, o-words) (length words) ∷ [])) ∷ ‵ (MutSlice (named 10) κ-rows usize .own (ref-rows γ-rows c2-rows) (sliceVal (b-rows, o-rows) (length rows) ∷ [])) ∷ [])) (Post vunit)
+  exits : (u1 : Update) (r1 : Val) (is1 : Is T-Update.the-row u1 (r1 ∷ [])) (d1 : u1 ≡ noUpdate) (updates : List Update) (made-updates : updates ≡ replicate 65536 u1) (size-updates : length updates ≡ 65536) (u2 : Outcome) (r2 : Val) (is2 : Is T-Outcome.the-row u2 (r2 ∷ [])) (c2-permutation : List ℕ) (c2-firsts : List ℕ) (c2-starts : List ℕ) (c2-groups : List ℕ) (c2-tasks : List ℕ) (c2-top : List ℕ) (c2-words : List ℕ) (c2-rows : List ℕ) (c2-updates : List Update) (d2 : Analyses (matrix n (input-starts) (input-rows) (input-values)) 18446744073709551615 (record { permutation = length (permutation); firsts = length (firsts); starts = length (starts); groups = length (groups); tasks = length (tasks); top = length (top); words = length (words); floats = 0; rows = length (rows); updates = length (updates); values = 0 }) (record { returned = u2; areas = record { permutation = c2-permutation; firsts = c2-firsts; starts = c2-starts; groups = c2-groups; tasks = c2-tasks; top = c2-top; words = c2-words; floats = []; rows = c2-rows; updates = c2-updates; values = [] } })) (same2-permutation : length c2-permutation ≡ length permutation) (same2-firsts : length c2-firsts ≡ length firsts) (same2-starts : length c2-starts ≡ length starts) (same2-groups : length c2-groups ≡ length groups) (same2-tasks : length c2-tasks ≡ length tasks) (same2-top : length c2-top ≡ length top) (same2-words : length c2-words ≡ length words) (same2-rows : length c2-rows ≡ length rows) (same2-updates : length c2-updates ≡ length updates) (u3 : ℕ) (r3 : Val) (is3 : Is usize u3 (r3 ∷ [])) (d3 : u3 ≤ 65536) (u4 : ℕ) (r4 : Val) (is4 : Is usize u4 (r4 ∷ [])) → ent 𝓤 (⋆ 𝓤 H A (‵ (flft κ-input-starts q-input-starts) ∷ ‵ (flft κ-input-rows q-input-rows) ∷ ‵ (flft κ-input-values q-input-values) ∷ ‵ (flft κ-permutation q-permutation) ∷ ‵ (flft κ-firsts q-firsts) ∷ ‵ (flft κ-starts q-starts) ∷ ‵ (flft κ-groups q-groups) ∷ ‵ (flft κ-tasks q-tasks) ∷ ‵ (flft κ-top q-top) ∷ ‵ (flft κ-words q-words) ∷ ‵ (flft κ-rows q-rows) ∷ ‵ (ShrSlice (named 0) κ-input-starts usize .own (ref-input-starts γ-input-starts input-starts) (sliceVal (b-input-starts, o-input-starts) (length input-starts) ∷ [])) ∷ ‵ (ShrSlice (named 1) κ-input-rows usize .own (ref-input-rows γ-input-rows input-rows) (sliceVal (b-input-rows, o-input-rows) (length input-rows) ∷ [])) ∷ ‵ (ShrSlice (named 2) κ-input-values f64 .own (ref-input-values γ-input-values input-values) (sliceVal (b-input-values, o-input-values) (length input-values) ∷ [])) ∷ ‵ (MutSlice (named 3) κ-permutation usize .own (ref-permutation γ-permutation c2-permutation) (sliceVal (b-permutation, o-permutation) (length permutation) ∷ [])) ∷ ‵ (MutSlice (named 4) κ-firsts usize .own (ref-firsts γ-firsts c2-firsts) (sliceVal (b-firsts, o-firsts) (length firsts) ∷ [])) ∷ ‵ (MutSlice (named 5) κ-starts usize .own (ref-starts γ-starts c2-starts) (sliceVal (b-starts, o-starts) (length starts) ∷ [])) ∷ ‵ (MutSlice (named 6) κ-groups usize .own (ref-groups γ-groups c2-groups) (sliceVal (b-groups, o-groups) (length groups) ∷ [])) ∷ ‵ (MutSlice (named 7) κ-tasks usize .own (ref-tasks γ-tasks c2-tasks) (sliceVal (b-tasks, o-tasks) (length tasks) ∷ [])) ∷ ‵ (MutSlice (named 8) κ-top usize .own (ref-top γ-top c2-top) (sliceVal (b-top, o-top) (length top) ∷ [])) ∷ ‵ (MutSlice (named 9) κ-words usize .own (ref-words γ-words c2-words) (sliceVal (b-words, o-words) (length words) ∷ [])) ∷ ‵ (MutSlice (named 10) κ-rows usize .own (ref-rows γ-rows c2-rows) (sliceVal (b-rows, o-rows) (length rows) ∷ [])) ∷ [])) (Post vunit)
   exits u1 r1 is1 d1 updates made-updates size-updates u2 r2 is2 c2-permutation c2-firsts c2-starts c2-groups c2-tasks c2-top c2-words c2-rows c2-updates d2 same2-permutation same2-firsts same2-starts same2-groups same2-tasks same2-top same2-words same2-rows same2-updates u3 r3 is3 d3 u4 r4 is4 =
       qed W (‵ (flft κ-input-starts q-input-starts) ∷ ‵ (flft κ-input-rows q-input-rows) ∷ ‵ (flft κ-input-values q-input-values) ∷ ‵ (flft κ-permutation q-permutation) ∷ ‵ (flft κ-firsts q-firsts) ∷ ‵ (flft κ-starts q-starts) ∷ ‵ (flft κ-groups q-groups) ∷ ‵ (flft κ-tasks q-tasks) ∷ ‵ (flft κ-top q-top) ∷ ‵ (flft κ-words q-words) ∷ ‵ (flft κ-rows q-rows) ∷ ‵ (ShrSlice (named 0) κ-input-starts usize .own (ref-input-starts γ-input-starts input-starts) (sliceVal (b-input-starts, o-input-starts) (length input-starts) ∷ [])) ∷ ‵ (ShrSlice (named 1) κ-input-rows usize .own (ref-input-rows γ-input-rows input-rows) (sliceVal (b-input-rows, o-input-rows) (length input-rows) ∷ [])) ∷ ‵ (ShrSlice (named 2) κ-input-values f64 .own (ref-input-values γ-input-values input-values) (sliceVal (b-input-values, o-input-values) (length input-values) ∷ [])) ∷ ‵ (MutSlice (named 3) κ-permutation usize .own (ref-permutation γ-permutation c2-permutation) (sliceVal (b-permutation, o-permutation) (length permutation) ∷ [])) ∷ ‵ (MutSlice (named 4) κ-firsts usize .own (ref-firsts γ-firsts c2-firsts) (sliceVal (b-firsts, o-firsts) (length firsts) ∷ [])) ∷ ‵ (MutSlice (named 5) κ-starts usize .own (ref-starts γ-starts c2-starts) (sliceVal (b-starts, o-starts) (length starts) ∷ [])) ∷ ‵ (MutSlice (named 6) κ-groups usize .own (ref-groups γ-groups c2-groups) (sliceVal (b-groups, o-groups) (length groups) ∷ [])) ∷ ‵ (MutSlice (named 7) κ-tasks usize .own (ref-tasks γ-tasks c2-tasks) (sliceVal (b-tasks, o-tasks) (length tasks) ∷ [])) ∷ ‵ (MutSlice (named 8) κ-top usize .own (ref-top γ-top c2-top) (sliceVal (b-top, o-top) (length top) ∷ [])) ∷ ‵ (MutSlice (named 9) κ-words usize .own (ref-words γ-words c2-words) (sliceVal (b-words, o-words) (length words) ∷ [])) ∷ ‵ (MutSlice (named 10) κ-rows usize .own (ref-rows γ-rows c2-rows) (sliceVal (b-rows, o-rows) (length rows) ∷ [])) ∷ []) ∵
       w-suffices ! _ (ends-at 𝓤 H A here.ended stayed (here.clauses 𝓤 H A mem run) W bound vunit tt (tt, (tt, (tt, (tt, (c2-permutation, (c2-firsts, (c2-starts, (c2-groups, (c2-tasks, (c2-top, (c2-words, (c2-rows, tt)))))))))))) (tt, (tt, (tt, (tt, (same2-permutation, (same2-firsts, (same2-starts, (same2-groups, (same2-tasks, (same2-top, (same2-words, (same2-rows, tt))))))))))))) $ w-says-nothing ! $
@@ -373,15 +371,15 @@ module _ {M : Type 1} (𝓤 : URA M) (H : Heap 𝓤) (A : Atoms 𝓤) (W : Given
     asked2 u1 r1 is1 d1 updates made-updates size-updates l14 ν2-5 δ2-5 ν2-6 δ2-6 ν2-7 δ2-7 ν2-8 δ2-8 ν2-9 δ2-9 ν2-10 δ2-10 ν2-11 δ2-11 ν2-12 δ2-12 ν2-13 δ2-13 =
         qed W ((‵ (flft (κ-input-starts) q-input-starts) ⊛ ‵ (flft (κ-input-rows) q-input-rows) ⊛ ‵ (flft (κ-input-values) q-input-values) ⊛ ‵ (flft (ν2-5 ∷ []) fullShare) ⊛ ‵ (flft (ν2-6 ∷ []) fullShare) ⊛ ‵ (flft (ν2-7 ∷ []) fullShare) ⊛ ‵ (flft (ν2-8 ∷ []) fullShare) ⊛ ‵ (flft (ν2-9 ∷ []) fullShare) ⊛ ‵ (flft (ν2-10 ∷ []) fullShare) ⊛ ‵ (flft (ν2-11 ∷ []) fullShare) ⊛ ‵ (flft (ν2-12 ∷ []) fullShare) ⊛ ‵ (flft (ν2-13 ∷ []) fullShare) ⊛ ‵ ftrue) ∷ ‵ (owns (usize ∷ ShrSlice (named 0) (κ-input-starts) usize ∷ ShrSlice (named 1) (κ-input-rows) usize ∷ ShrSlice (named 2) (κ-input-values) f64 ∷ usize ∷ MutSlice (named 3) (ν2-5 ∷ []) usize ∷ MutSlice (named 4) (ν2-6 ∷ []) usize ∷ MutSlice (named 5) (ν2-7 ∷ []) usize ∷ MutSlice (named 6) (ν2-8 ∷ []) usize ∷ MutSlice (named 7) (ν2-9 ∷ []) usize ∷ MutSlice (named 8) (ν2-10 ∷ []) usize ∷ MutSlice (named 9) (ν2-11 ∷ []) usize ∷ MutSlice (named 10) (ν2-12 ∷ []) usize ∷ MutSlice (named 11) (ν2-13 ∷ []) T-Update.the-row ∷ []) (n, (ref-input-starts γ-input-starts input-starts, (ref-input-rows γ-input-rows input-rows, (ref-input-values γ-input-values input-values, (18446744073709551615, (ref-permutation δ2-5 permutation, (ref-firsts δ2-6 firsts, (ref-starts δ2-7 starts, (ref-groups δ2-8 groups, (ref-tasks δ2-9 tasks, (ref-top δ2-10 top, (ref-words δ2-11 words, (ref-rows δ2-12 rows, (ref-updates l14 δ2-13 updates, tt)))))))))))))) (vint w64 n ∷ [], (s-input-starts ∷ [], (s-input-rows ∷ [], (s-input-values ∷ [], (vint w64 18446744073709551615 ∷ [], (s-permutation ∷ [], (s-firsts ∷ [], (s-starts ∷ [], (s-groups ∷ [], (s-tasks ∷ [], (s-top ∷ [], (s-words ∷ [], (s-rows ∷ [], (sliceVal (l14, 0) (length updates) ∷ [], tt))))))))))))))) ∷ []) ∵ w-join ! $ w-frame ! $ done !
 
-    asked3 : (u1 : Update) (r1 : Val) (is1 : Is T-Update.the-row u1 (r1 ∷ [])) (d1 : u1 ≡ noUpdate) (updates : List Update) (made-updates : updates ≡ replicate 65536 u1) (size-updates : length updates ≡ 65536) (u2 : Outcome) (r2 : Val) (is2 : Is T-Outcome.the-row u2 (r2 ∷ [])) (c2-permutation : List ℕ) (c2-firsts : List ℕ) (c2-starts : List ℕ) (c2-groups : List ℕ) (c2-tasks : List ℕ) (c2-top : List ℕ) (c2-words : List ℕ) (c2-rows : List ℕ) (c2-updates : List Update) (d2 : Settles (analyse (matrix n (input-starts) (input-rows) (input-values)) 18446744073709551615 (lentStructure (length (permutation)) (length (firsts)) (length (starts)) (length (groups)) (length (tasks)) (length (top)) (length (words)) (length (rows)) (length (updates)))) u2 (c2-permutation) (c2-firsts) (c2-starts) (c2-groups) (c2-tasks) (c2-top) (c2-words) (c2-rows) (c2-updates)) (same2-permutation : length c2-permutation ≡ length permutation) (same2-firsts : length c2-firsts ≡ length firsts) (same2-starts : length c2-starts ≡ length starts) (same2-groups : length c2-groups ≡ length groups) (same2-tasks : length c2-tasks ≡ length tasks) (same2-top : length c2-top ≡ length top) (same2-words : length c2-words ≡ length words) (same2-rows : length c2-rows ≡ length rows) (same2-updates : length c2-updates ≡ length updates) → ent 𝓤 (onEntry 𝓤 H A f-count.signature tt tt (u2, (65536, tt)) (r2 ∷ [], (vint w64 65536 ∷ [], tt))) (C-count 𝓤 H A mem run .pre ((tt, tt, tt, (u2, (65536, tt)), (r2 ∷ [], (vint w64 65536 ∷ [], tt))), tt))
+    asked3 : (u1 : Update) (r1 : Val) (is1 : Is T-Update.the-row u1 (r1 ∷ [])) (d1 : u1 ≡ noUpdate) (updates : List Update) (made-updates : updates ≡ replicate 65536 u1) (size-updates : length updates ≡ 65536) (u2 : Outcome) (r2 : Val) (is2 : Is T-Outcome.the-row u2 (r2 ∷ [])) (c2-permutation : List ℕ) (c2-firsts : List ℕ) (c2-starts : List ℕ) (c2-groups : List ℕ) (c2-tasks : List ℕ) (c2-top : List ℕ) (c2-words : List ℕ) (c2-rows : List ℕ) (c2-updates : List Update) (d2 : Analyses (matrix n (input-starts) (input-rows) (input-values)) 18446744073709551615 (record { permutation = length (permutation); firsts = length (firsts); starts = length (starts); groups = length (groups); tasks = length (tasks); top = length (top); words = length (words); floats = 0; rows = length (rows); updates = length (updates); values = 0 }) (record { returned = u2; areas = record { permutation = c2-permutation; firsts = c2-firsts; starts = c2-starts; groups = c2-groups; tasks = c2-tasks; top = c2-top; words = c2-words; floats = []; rows = c2-rows; updates = c2-updates; values = [] } })) (same2-permutation : length c2-permutation ≡ length permutation) (same2-firsts : length c2-firsts ≡ length firsts) (same2-starts : length c2-starts ≡ length starts) (same2-groups : length c2-groups ≡ length groups) (same2-tasks : length c2-tasks ≡ length tasks) (same2-top : length c2-top ≡ length top) (same2-words : length c2-words ≡ length words) (same2-rows : length c2-rows ≡ length rows) (same2-updates : length c2-updates ≡ length updates) → ent 𝓤 (onEntry 𝓤 H A f-count.signature tt tt (u2, (65536, tt)) (r2 ∷ [], (vint w64 65536 ∷ [], tt))) (C-count 𝓤 H A mem run .pre ((tt, tt, tt, (u2, (65536, tt)), (r2 ∷ [], (vint w64 65536 ∷ [], tt))), tt))
     asked3 u1 r1 is1 d1 updates made-updates size-updates u2 r2 is2 c2-permutation c2-firsts c2-starts c2-groups c2-tasks c2-top c2-words c2-rows c2-updates d2 same2-permutation same2-firsts same2-starts same2-groups same2-tasks same2-top same2-words same2-rows same2-updates =
         qed W ((‵ ftrue) ∷ ‵ (owns (T-Outcome.the-row ∷ usize ∷ []) (u2, (65536, tt)) (r2 ∷ [], (vint w64 65536 ∷ [], tt))) ∷ []) ∵ w-join ! $ w-frame ! $ done !
 
-    asked4 : (u1 : Update) (r1 : Val) (is1 : Is T-Update.the-row u1 (r1 ∷ [])) (d1 : u1 ≡ noUpdate) (updates : List Update) (made-updates : updates ≡ replicate 65536 u1) (size-updates : length updates ≡ 65536) (u2 : Outcome) (r2 : Val) (is2 : Is T-Outcome.the-row u2 (r2 ∷ [])) (c2-permutation : List ℕ) (c2-firsts : List ℕ) (c2-starts : List ℕ) (c2-groups : List ℕ) (c2-tasks : List ℕ) (c2-top : List ℕ) (c2-words : List ℕ) (c2-rows : List ℕ) (c2-updates : List Update) (d2 : Settles (analyse (matrix n (input-starts) (input-rows) (input-values)) 18446744073709551615 (lentStructure (length (permutation)) (length (firsts)) (length (starts)) (length (groups)) (length (tasks)) (length (top)) (length (words)) (length (rows)) (length (updates)))) u2 (c2-permutation) (c2-firsts) (c2-starts) (c2-groups) (c2-tasks) (c2-top) (c2-words) (c2-rows) (c2-updates)) (same2-permutation : length c2-permutation ≡ length permutation) (same2-firsts : length c2-firsts ≡ length firsts) (same2-starts : length c2-starts ≡ length starts) (same2-groups : length c2-groups ≡ length groups) (same2-tasks : length c2-tasks ≡ length tasks) (same2-top : length c2-top ≡ length top) (same2-words : length c2-words ≡ length words) (same2-rows : length c2-rows ≡ length rows) (same2-updates : length c2-updates ≡ length updates) (u3 : ℕ) (r3 : Val) (is3 : Is usize u3 (r3 ∷ [])) (d3 : u3 ≤ 65536) (l14 : ℕ) (ν4-0 : ℕ) (δ4-0 : GName) → ent 𝓤 (onEntry 𝓤 H A f-sum-updates.signature (ν4-0 ∷ [], tt) (fullShare, tt) (ref-updates l14 δ4-0 c2-updates, (u3, tt)) (sliceVal (l14, 0) (length c2-updates) ∷ [], (r3 ∷ [], tt))) (C-sum-updates 𝓤 H A mem run .pre (((ν4-0 ∷ [], tt), (fullShare, tt), tt, (ref-updates l14 δ4-0 c2-updates, (u3, tt)), (sliceVal (l14, 0) (length c2-updates) ∷ [], (r3 ∷ [], tt))), tt))
+    asked4 : (u1 : Update) (r1 : Val) (is1 : Is T-Update.the-row u1 (r1 ∷ [])) (d1 : u1 ≡ noUpdate) (updates : List Update) (made-updates : updates ≡ replicate 65536 u1) (size-updates : length updates ≡ 65536) (u2 : Outcome) (r2 : Val) (is2 : Is T-Outcome.the-row u2 (r2 ∷ [])) (c2-permutation : List ℕ) (c2-firsts : List ℕ) (c2-starts : List ℕ) (c2-groups : List ℕ) (c2-tasks : List ℕ) (c2-top : List ℕ) (c2-words : List ℕ) (c2-rows : List ℕ) (c2-updates : List Update) (d2 : Analyses (matrix n (input-starts) (input-rows) (input-values)) 18446744073709551615 (record { permutation = length (permutation); firsts = length (firsts); starts = length (starts); groups = length (groups); tasks = length (tasks); top = length (top); words = length (words); floats = 0; rows = length (rows); updates = length (updates); values = 0 }) (record { returned = u2; areas = record { permutation = c2-permutation; firsts = c2-firsts; starts = c2-starts; groups = c2-groups; tasks = c2-tasks; top = c2-top; words = c2-words; floats = []; rows = c2-rows; updates = c2-updates; values = [] } })) (same2-permutation : length c2-permutation ≡ length permutation) (same2-firsts : length c2-firsts ≡ length firsts) (same2-starts : length c2-starts ≡ length starts) (same2-groups : length c2-groups ≡ length groups) (same2-tasks : length c2-tasks ≡ length tasks) (same2-top : length c2-top ≡ length top) (same2-words : length c2-words ≡ length words) (same2-rows : length c2-rows ≡ length rows) (same2-updates : length c2-updates ≡ length updates) (u3 : ℕ) (r3 : Val) (is3 : Is usize u3 (r3 ∷ [])) (d3 : u3 ≤ 65536) (l14 : ℕ) (ν4-0 : ℕ) (δ4-0 : GName) → ent 𝓤 (onEntry 𝓤 H A f-sum-updates.signature (ν4-0 ∷ [], tt) (fullShare, tt) (ref-updates l14 δ4-0 c2-updates, (u3, tt)) (sliceVal (l14, 0) (length c2-updates) ∷ [], (r3 ∷ [], tt))) (C-sum-updates 𝓤 H A mem run .pre (((ν4-0 ∷ [], tt), (fullShare, tt), tt, (ref-updates l14 δ4-0 c2-updates, (u3, tt)), (sliceVal (l14, 0) (length c2-updates) ∷ [], (r3 ∷ [], tt))), tt))
     asked4 u1 r1 is1 d1 updates made-updates size-updates u2 r2 is2 c2-permutation c2-firsts c2-starts c2-groups c2-tasks c2-top c2-words c2-rows c2-updates d2 same2-permutation same2-firsts same2-starts same2-groups same2-tasks same2-top same2-words same2-rows same2-updates u3 r3 is3 d3 l14 ν4-0 δ4-0 =
         let need : u3 ≤ length (c2-updates) = omega (arith, d3, size-updates, same2-updates) in qed W ((‵ (flft (ν4-0 ∷ []) fullShare) ⊛ ‵ ftrue) ∷ ‵ (owns (ShrSlice (named 0) (ν4-0 ∷ []) T-Update.the-row ∷ usize ∷ []) (ref-updates l14 δ4-0 c2-updates, (u3, tt)) (sliceVal (l14, 0) (length c2-updates) ∷ [], (r3 ∷ [], tt))) ∷ []) ∵ w-says ! need $ w-frame ! $ done !
 
-    asked5 : (u1 : Update) (r1 : Val) (is1 : Is T-Update.the-row u1 (r1 ∷ [])) (d1 : u1 ≡ noUpdate) (updates : List Update) (made-updates : updates ≡ replicate 65536 u1) (size-updates : length updates ≡ 65536) (u2 : Outcome) (r2 : Val) (is2 : Is T-Outcome.the-row u2 (r2 ∷ [])) (c2-permutation : List ℕ) (c2-firsts : List ℕ) (c2-starts : List ℕ) (c2-groups : List ℕ) (c2-tasks : List ℕ) (c2-top : List ℕ) (c2-words : List ℕ) (c2-rows : List ℕ) (c2-updates : List Update) (d2 : Settles (analyse (matrix n (input-starts) (input-rows) (input-values)) 18446744073709551615 (lentStructure (length (permutation)) (length (firsts)) (length (starts)) (length (groups)) (length (tasks)) (length (top)) (length (words)) (length (rows)) (length (updates)))) u2 (c2-permutation) (c2-firsts) (c2-starts) (c2-groups) (c2-tasks) (c2-top) (c2-words) (c2-rows) (c2-updates)) (same2-permutation : length c2-permutation ≡ length permutation) (same2-firsts : length c2-firsts ≡ length firsts) (same2-starts : length c2-starts ≡ length starts) (same2-groups : length c2-groups ≡ length groups) (same2-tasks : length c2-tasks ≡ length tasks) (same2-top : length c2-top ≡ length top) (same2-words : length c2-words ≡ length words) (same2-rows : length c2-rows ≡ length rows) (same2-updates : length c2-updates ≡ length updates) (u3 : ℕ) (r3 : Val) (is3 : Is usize u3 (r3 ∷ [])) (d3 : u3 ≤ 65536) (u4 : ℕ) (r4 : Val) (is4 : Is usize u4 (r4 ∷ [])) (ν5-1 : ℕ) (δ5-1 : GName) (ν5-2 : ℕ) (δ5-2 : GName) (ν5-3 : ℕ) (δ5-3 : GName) (ν5-4 : ℕ) (δ5-4 : GName) (ν5-5 : ℕ) (δ5-5 : GName) (ν5-6 : ℕ) (δ5-6 : GName) (ν5-7 : ℕ) (δ5-7 : GName) → ent 𝓤 (onEntry 𝓤 H A f-print.signature (ν5-1 ∷ [], (ν5-2 ∷ [], (ν5-3 ∷ [], (ν5-4 ∷ [], (ν5-5 ∷ [], (ν5-6 ∷ [], (ν5-7 ∷ [], tt))))))) (fullShare, (fullShare, (fullShare, (fullShare, (fullShare, (fullShare, (fullShare, tt))))))) (u2, (ref-permutation δ5-1 c2-permutation, (ref-firsts δ5-2 c2-firsts, (ref-starts δ5-3 c2-starts, (ref-groups δ5-4 c2-groups, (ref-tasks δ5-5 c2-tasks, (ref-top δ5-6 c2-top, (ref-rows δ5-7 c2-rows, (u4, tt))))))))) (r2 ∷ [], (s-permutation ∷ [], (s-firsts ∷ [], (s-starts ∷ [], (s-groups ∷ [], (s-tasks ∷ [], (s-top ∷ [], (s-rows ∷ [], (r4 ∷ [], tt)))))))))) (C-print 𝓤 H A mem run .pre (((ν5-1 ∷ [], (ν5-2 ∷ [], (ν5-3 ∷ [], (ν5-4 ∷ [], (ν5-5 ∷ [], (ν5-6 ∷ [], (ν5-7 ∷ [], tt))))))), (fullShare, (fullShare, (fullShare, (fullShare, (fullShare, (fullShare, (fullShare, tt))))))), tt, (u2, (ref-permutation δ5-1 c2-permutation, (ref-firsts δ5-2 c2-firsts, (ref-starts δ5-3 c2-starts, (ref-groups δ5-4 c2-groups, (ref-tasks δ5-5 c2-tasks, (ref-top δ5-6 c2-top, (ref-rows δ5-7 c2-rows, (u4, tt))))))))), (r2 ∷ [], (s-permutation ∷ [], (s-firsts ∷ [], (s-starts ∷ [], (s-groups ∷ [], (s-tasks ∷ [], (s-top ∷ [], (s-rows ∷ [], (r4 ∷ [], tt)))))))))), tt))
+    asked5 : (u1 : Update) (r1 : Val) (is1 : Is T-Update.the-row u1 (r1 ∷ [])) (d1 : u1 ≡ noUpdate) (updates : List Update) (made-updates : updates ≡ replicate 65536 u1) (size-updates : length updates ≡ 65536) (u2 : Outcome) (r2 : Val) (is2 : Is T-Outcome.the-row u2 (r2 ∷ [])) (c2-permutation : List ℕ) (c2-firsts : List ℕ) (c2-starts : List ℕ) (c2-groups : List ℕ) (c2-tasks : List ℕ) (c2-top : List ℕ) (c2-words : List ℕ) (c2-rows : List ℕ) (c2-updates : List Update) (d2 : Analyses (matrix n (input-starts) (input-rows) (input-values)) 18446744073709551615 (record { permutation = length (permutation); firsts = length (firsts); starts = length (starts); groups = length (groups); tasks = length (tasks); top = length (top); words = length (words); floats = 0; rows = length (rows); updates = length (updates); values = 0 }) (record { returned = u2; areas = record { permutation = c2-permutation; firsts = c2-firsts; starts = c2-starts; groups = c2-groups; tasks = c2-tasks; top = c2-top; words = c2-words; floats = []; rows = c2-rows; updates = c2-updates; values = [] } })) (same2-permutation : length c2-permutation ≡ length permutation) (same2-firsts : length c2-firsts ≡ length firsts) (same2-starts : length c2-starts ≡ length starts) (same2-groups : length c2-groups ≡ length groups) (same2-tasks : length c2-tasks ≡ length tasks) (same2-top : length c2-top ≡ length top) (same2-words : length c2-words ≡ length words) (same2-rows : length c2-rows ≡ length rows) (same2-updates : length c2-updates ≡ length updates) (u3 : ℕ) (r3 : Val) (is3 : Is usize u3 (r3 ∷ [])) (d3 : u3 ≤ 65536) (u4 : ℕ) (r4 : Val) (is4 : Is usize u4 (r4 ∷ [])) (ν5-1 : ℕ) (δ5-1 : GName) (ν5-2 : ℕ) (δ5-2 : GName) (ν5-3 : ℕ) (δ5-3 : GName) (ν5-4 : ℕ) (δ5-4 : GName) (ν5-5 : ℕ) (δ5-5 : GName) (ν5-6 : ℕ) (δ5-6 : GName) (ν5-7 : ℕ) (δ5-7 : GName) → ent 𝓤 (onEntry 𝓤 H A f-print.signature (ν5-1 ∷ [], (ν5-2 ∷ [], (ν5-3 ∷ [], (ν5-4 ∷ [], (ν5-5 ∷ [], (ν5-6 ∷ [], (ν5-7 ∷ [], tt))))))) (fullShare, (fullShare, (fullShare, (fullShare, (fullShare, (fullShare, (fullShare, tt))))))) (u2, (ref-permutation δ5-1 c2-permutation, (ref-firsts δ5-2 c2-firsts, (ref-starts δ5-3 c2-starts, (ref-groups δ5-4 c2-groups, (ref-tasks δ5-5 c2-tasks, (ref-top δ5-6 c2-top, (ref-rows δ5-7 c2-rows, (u4, tt))))))))) (r2 ∷ [], (s-permutation ∷ [], (s-firsts ∷ [], (s-starts ∷ [], (s-groups ∷ [], (s-tasks ∷ [], (s-top ∷ [], (s-rows ∷ [], (r4 ∷ [], tt)))))))))) (C-print 𝓤 H A mem run .pre (((ν5-1 ∷ [], (ν5-2 ∷ [], (ν5-3 ∷ [], (ν5-4 ∷ [], (ν5-5 ∷ [], (ν5-6 ∷ [], (ν5-7 ∷ [], tt))))))), (fullShare, (fullShare, (fullShare, (fullShare, (fullShare, (fullShare, (fullShare, tt))))))), tt, (u2, (ref-permutation δ5-1 c2-permutation, (ref-firsts δ5-2 c2-firsts, (ref-starts δ5-3 c2-starts, (ref-groups δ5-4 c2-groups, (ref-tasks δ5-5 c2-tasks, (ref-top δ5-6 c2-top, (ref-rows δ5-7 c2-rows, (u4, tt))))))))), (r2 ∷ [], (s-permutation ∷ [], (s-firsts ∷ [], (s-starts ∷ [], (s-groups ∷ [], (s-tasks ∷ [], (s-top ∷ [], (s-rows ∷ [], (r4 ∷ [], tt)))))))))), tt))
     asked5 u1 r1 is1 d1 updates made-updates size-updates u2 r2 is2 c2-permutation c2-firsts c2-starts c2-groups c2-tasks c2-top c2-words c2-rows c2-updates d2 same2-permutation same2-firsts same2-starts same2-groups same2-tasks same2-top same2-words same2-rows same2-updates u3 r3 is3 d3 u4 r4 is4 ν5-1 δ5-1 ν5-2 δ5-2 ν5-3 δ5-3 ν5-4 δ5-4 ν5-5 δ5-5 ν5-6 δ5-6 ν5-7 δ5-7 =
         qed W ((‵ (flft (ν5-1 ∷ []) fullShare) ⊛ ‵ (flft (ν5-2 ∷ []) fullShare) ⊛ ‵ (flft (ν5-3 ∷ []) fullShare) ⊛ ‵ (flft (ν5-4 ∷ []) fullShare) ⊛ ‵ (flft (ν5-5 ∷ []) fullShare) ⊛ ‵ (flft (ν5-6 ∷ []) fullShare) ⊛ ‵ (flft (ν5-7 ∷ []) fullShare) ⊛ ‵ ftrue) ∷ ‵ (owns (T-Outcome.the-row ∷ ShrSlice (named 0) (ν5-1 ∷ []) usize ∷ ShrSlice (named 1) (ν5-2 ∷ []) usize ∷ ShrSlice (named 2) (ν5-3 ∷ []) usize ∷ ShrSlice (named 3) (ν5-4 ∷ []) usize ∷ ShrSlice (named 4) (ν5-5 ∷ []) usize ∷ ShrSlice (named 5) (ν5-6 ∷ []) usize ∷ ShrSlice (named 6) (ν5-7 ∷ []) usize ∷ usize ∷ []) (u2, (ref-permutation δ5-1 c2-permutation, (ref-firsts δ5-2 c2-firsts, (ref-starts δ5-3 c2-starts, (ref-groups δ5-4 c2-groups, (ref-tasks δ5-5 c2-tasks, (ref-top δ5-6 c2-top, (ref-rows δ5-7 c2-rows, (u4, tt))))))))) (r2 ∷ [], (s-permutation ∷ [], (s-firsts ∷ [], (s-starts ∷ [], (s-groups ∷ [], (s-tasks ∷ [], (s-top ∷ [], (s-rows ∷ [], (r4 ∷ [], tt)))))))))) ∷ []) ∵ w-join ! $ w-frame ! $ done !
 
@@ -401,7 +399,7 @@ module _ {M : Type 1} (𝓤 : URA M) (H : Heap 𝓤) (A : Atoms 𝓤) (W : Given
       abbrev dying : List (Item 𝓤)
       dying = ‵ (fdies ty0 l0) ∷ ‵ (fdies ty1 l1) ∷ ‵ (fdies ty2 l2) ∷ ‵ (fdies ty3 l3) ∷ ‵ (fdies ty4 l4) ∷ ‵ (fdies ty5 l5) ∷ ‵ (fdies ty6 l6) ∷ ‵ (fdies ty7 l7) ∷ ‵ (fdies ty8 l8) ∷ ‵ (fdies ty9 l9) ∷ ‵ (fdies ty10 l10) ∷ ‵ (fdies ty11 l11) ∷ ‵ (fdies ty12 l12) ∷ ‵ (fdies ty13 l13) ∷ ‵ (fdies ty14 l14) ∷ ‵ (fdies ty15 l15) ∷ ‵ (fdies ty16 l16) ∷ ‵ (fdies ty17 l17) ∷ ‵ (fdies ty18 l18) ∷ ‵ (fdies ty19 l19) ∷ ‵ (fdies ty20 l20) ∷ ‵ (fdies ty21 l21) ∷ ‵ (fdies ty22 l22) ∷ ‵ (fdies ty23 l23) ∷ ‵ (fdies ty24 l24) ∷ ‵ (fdies ty25 l25) ∷ ‵ (fdies ty26 l26) ∷ ‵ (fdies ty27 l27) ∷ ‵ (fdies ty28 l28) ∷ ‵ (fdies ty29 l29) ∷ ‵ (fdies ty30 l30) ∷ ‵ (fdies ty31 l31) ∷ ‵ (fdies ty32 l32) ∷ ‵ (fdies ty33 l33) ∷ ‵ (fdies ty34 l34) ∷ ‵ (fdies ty35 l35) ∷ ‵ (fdies ty36 l36) ∷ ‵ (fdies ty37 l37) ∷ ‵ (fdies ty38 l38) ∷ ‵ (fdies ty39 l39) ∷ ‵ (fdies ty40 l40) ∷ ‵ (fdies ty41 l41) ∷ ‵ (fdies ty42 l42) ∷ ‵ (fdies ty43 l43) ∷ ‵ (fdies ty44 l44) ∷ ‵ (fdies ty45 l45) ∷ ‵ (fdies ty46 l46) ∷ ‵ (fdies ty47 l47) ∷ ‵ (fdies ty48 l48) ∷ ‵ (fdies ty49 l49) ∷ ‵ (fdies ty50 l50) ∷ ‵ (fdies ty51 l51) ∷ ‵ (fdies ty52 l52) ∷ []
 
-      after5 : (u1 : Update) (r1 : Val) (is1 : Is T-Update.the-row u1 (r1 ∷ [])) (d1 : u1 ≡ noUpdate) (updates : List Update) (made-updates : updates ≡ replicate 65536 u1) (size-updates : length updates ≡ 65536) (u2 : Outcome) (r2 : Val) (is2 : Is T-Outcome.the-row u2 (r2 ∷ [])) (c2-permutation : List ℕ) (c2-firsts : List ℕ) (c2-starts : List ℕ) (c2-groups : List ℕ) (c2-tasks : List ℕ) (c2-top : List ℕ) (c2-words : List ℕ) (c2-rows : List ℕ) (c2-updates : List Update) (d2 : Settles (analyse (matrix n (input-starts) (input-rows) (input-values)) 18446744073709551615 (lentStructure (length (permutation)) (length (firsts)) (length (starts)) (length (groups)) (length (tasks)) (length (top)) (length (words)) (length (rows)) (length (updates)))) u2 (c2-permutation) (c2-firsts) (c2-starts) (c2-groups) (c2-tasks) (c2-top) (c2-words) (c2-rows) (c2-updates)) (same2-permutation : length c2-permutation ≡ length permutation) (same2-firsts : length c2-firsts ≡ length firsts) (same2-starts : length c2-starts ≡ length starts) (same2-groups : length c2-groups ≡ length groups) (same2-tasks : length c2-tasks ≡ length tasks) (same2-top : length c2-top ≡ length top) (same2-words : length c2-words ≡ length words) (same2-rows : length c2-rows ≡ length rows) (same2-updates : length c2-updates ≡ length updates) (u3 : ℕ) (r3 : Val) (is3 : Is usize u3 (r3 ∷ [])) (d3 : u3 ≤ 65536) (u4 : ℕ) (r4 : Val) (is4 : Is usize u4 (r4 ∷ [])) → Sq W (‵ (ShrSlice (named 0) κ-input-starts usize .own (ref-input-starts γ-input-starts input-starts) (sliceVal (b-input-starts, o-input-starts) (length input-starts) ∷ [])) ∷ ‵ (ShrSlice (named 1) κ-input-rows usize .own (ref-input-rows γ-input-rows input-rows) (sliceVal (b-input-rows, o-input-rows) (length input-rows) ∷ [])) ∷ ‵ (ShrSlice (named 2) κ-input-values f64 .own (ref-input-values γ-input-values input-values) (sliceVal (b-input-values, o-input-values) (length input-values) ∷ [])) ∷ ‵ (MutSlice (named 3) κ-permutation usize .own (ref-permutation γ-permutation c2-permutation) (sliceVal (b-permutation, o-permutation) (length permutation) ∷ [])) ∷ ‵ (MutSlice (named 4) κ-firsts usize .own (ref-firsts γ-firsts c2-firsts) (sliceVal (b-firsts, o-firsts) (length firsts) ∷ [])) ∷ ‵ (MutSlice (named 5) κ-starts usize .own (ref-starts γ-starts c2-starts) (sliceVal (b-starts, o-starts) (length starts) ∷ [])) ∷ ‵ (MutSlice (named 6) κ-groups usize .own (ref-groups γ-groups c2-groups) (sliceVal (b-groups, o-groups) (length groups) ∷ [])) ∷ ‵ (MutSlice (named 7) κ-tasks usize .own (ref-tasks γ-tasks c2-tasks) (sliceVal (b-tasks, o-tasks) (length tasks) ∷ [])) ∷ ‵ (MutSlice (named 8) κ-top usize .own (ref-top γ-top c2-top) (sliceVal (b-top, o-top) (length top) ∷ [])) ∷ ‵ (MutSlice (named 9) κ-words usize .own (ref-words γ-words c2-words) (sliceVal (b-words, o-words) (length words) ∷ [])) ∷ ‵ (MutSlice (named 10) κ-rows usize .own (ref-rows γ-rows c2-rows) (sliceVal (b-rows, o-rows) (length rows) ∷ [])) ∷ ‵ (flft κ-input-starts q-input-starts) ∷ ‵ (flft κ-input-rows q-input-rows) ∷ ‵ (flft κ-input-values q-input-values) ∷ ‵ (flft κ-permutation q-permutation) ∷ ‵ (flft κ-firsts q-firsts) ∷ ‵ (flft κ-starts q-starts) ∷ ‵ (flft κ-groups q-groups) ∷ ‵ (flft κ-tasks q-tasks) ∷ ‵ (flft κ-top q-top) ∷ ‵ (flft κ-words q-words) ∷ ‵ (flft κ-rows q-rows) ∷ ‵ (froom ty0 l0 0) ∷ ‵ (fat fullShare ty1 l1 0 (vint w64 n)) ∷ ‵ (fat fullShare ty2 l2 0 s-input-starts) ∷ ‵ (fat fullShare ty3 l3 0 s-input-rows) ∷ ‵ (fat fullShare ty4 l4 0 s-input-values) ∷ ‵ (fat fullShare ty5 l5 0 s-permutation) ∷ ‵ (fat fullShare ty6 l6 0 s-firsts) ∷ ‵ (fat fullShare ty7 l7 0 s-starts) ∷ ‵ (fat fullShare ty8 l8 0 s-groups) ∷ ‵ (fat fullShare ty9 l9 0 s-tasks) ∷ ‵ (fat fullShare ty10 l10 0 s-top) ∷ ‵ (fat fullShare ty11 l11 0 s-words) ∷ ‵ (fat fullShare ty12 l12 0 s-rows) ∷ ‵ (fat fullShare ty13 l13 0 r1) ∷ ‵ (Lies T-Update.the-row 65536 l14 0 c2-updates) ∷ ‵ (fat fullShare ty15 l15 0 r2) ∷ ‵ (fat fullShare ty16 l16 0 r3) ∷ ‵ (fat fullShare ty17 l17 0 r4) ∷ ‵ (froom ty38 l38 0) ∷ raw (Packed 𝓤 H A spare2) ∷ raw (Packed 𝓤 H A spare4) ∷ raw (Packed 𝓤 H A spare5) ∷ raw (Packed 𝓤 H A dying) ∷ []) (runs C Λ En body.t-41 (atRet En Post))
+      after5 : (u1 : Update) (r1 : Val) (is1 : Is T-Update.the-row u1 (r1 ∷ [])) (d1 : u1 ≡ noUpdate) (updates : List Update) (made-updates : updates ≡ replicate 65536 u1) (size-updates : length updates ≡ 65536) (u2 : Outcome) (r2 : Val) (is2 : Is T-Outcome.the-row u2 (r2 ∷ [])) (c2-permutation : List ℕ) (c2-firsts : List ℕ) (c2-starts : List ℕ) (c2-groups : List ℕ) (c2-tasks : List ℕ) (c2-top : List ℕ) (c2-words : List ℕ) (c2-rows : List ℕ) (c2-updates : List Update) (d2 : Analyses (matrix n (input-starts) (input-rows) (input-values)) 18446744073709551615 (record { permutation = length (permutation); firsts = length (firsts); starts = length (starts); groups = length (groups); tasks = length (tasks); top = length (top); words = length (words); floats = 0; rows = length (rows); updates = length (updates); values = 0 }) (record { returned = u2; areas = record { permutation = c2-permutation; firsts = c2-firsts; starts = c2-starts; groups = c2-groups; tasks = c2-tasks; top = c2-top; words = c2-words; floats = []; rows = c2-rows; updates = c2-updates; values = [] } })) (same2-permutation : length c2-permutation ≡ length permutation) (same2-firsts : length c2-firsts ≡ length firsts) (same2-starts : length c2-starts ≡ length starts) (same2-groups : length c2-groups ≡ length groups) (same2-tasks : length c2-tasks ≡ length tasks) (same2-top : length c2-top ≡ length top) (same2-words : length c2-words ≡ length words) (same2-rows : length c2-rows ≡ length rows) (same2-updates : length c2-updates ≡ length updates) (u3 : ℕ) (r3 : Val) (is3 : Is usize u3 (r3 ∷ [])) (d3 : u3 ≤ 65536) (u4 : ℕ) (r4 : Val) (is4 : Is usize u4 (r4 ∷ [])) → Sq W (‵ (ShrSlice (named 0) κ-input-starts usize .own (ref-input-starts γ-input-starts input-starts) (sliceVal (b-input-starts, o-input-starts) (length input-starts) ∷ [])) ∷ ‵ (ShrSlice (named 1) κ-input-rows usize .own (ref-input-rows γ-input-rows input-rows) (sliceVal (b-input-rows, o-input-rows) (length input-rows) ∷ [])) ∷ ‵ (ShrSlice (named 2) κ-input-values f64 .own (ref-input-values γ-input-values input-values) (sliceVal (b-input-values, o-input-values) (length input-values) ∷ [])) ∷ ‵ (MutSlice (named 3) κ-permutation usize .own (ref-permutation γ-permutation c2-permutation) (sliceVal (b-permutation, o-permutation) (length permutation) ∷ [])) ∷ ‵ (MutSlice (named 4) κ-firsts usize .own (ref-firsts γ-firsts c2-firsts) (sliceVal (b-firsts, o-firsts) (length firsts) ∷ [])) ∷ ‵ (MutSlice (named 5) κ-starts usize .own (ref-starts γ-starts c2-starts) (sliceVal (b-starts, o-starts) (length starts) ∷ [])) ∷ ‵ (MutSlice (named 6) κ-groups usize .own (ref-groups γ-groups c2-groups) (sliceVal (b-groups, o-groups) (length groups) ∷ [])) ∷ ‵ (MutSlice (named 7) κ-tasks usize .own (ref-tasks γ-tasks c2-tasks) (sliceVal (b-tasks, o-tasks) (length tasks) ∷ [])) ∷ ‵ (MutSlice (named 8) κ-top usize .own (ref-top γ-top c2-top) (sliceVal (b-top, o-top) (length top) ∷ [])) ∷ ‵ (MutSlice (named 9) κ-words usize .own (ref-words γ-words c2-words) (sliceVal (b-words, o-words) (length words) ∷ [])) ∷ ‵ (MutSlice (named 10) κ-rows usize .own (ref-rows γ-rows c2-rows) (sliceVal (b-rows, o-rows) (length rows) ∷ [])) ∷ ‵ (flft κ-input-starts q-input-starts) ∷ ‵ (flft κ-input-rows q-input-rows) ∷ ‵ (flft κ-input-values q-input-values) ∷ ‵ (flft κ-permutation q-permutation) ∷ ‵ (flft κ-firsts q-firsts) ∷ ‵ (flft κ-starts q-starts) ∷ ‵ (flft κ-groups q-groups) ∷ ‵ (flft κ-tasks q-tasks) ∷ ‵ (flft κ-top q-top) ∷ ‵ (flft κ-words q-words) ∷ ‵ (flft κ-rows q-rows) ∷ ‵ (froom ty0 l0 0) ∷ ‵ (fat fullShare ty1 l1 0 (vint w64 n)) ∷ ‵ (fat fullShare ty2 l2 0 s-input-starts) ∷ ‵ (fat fullShare ty3 l3 0 s-input-rows) ∷ ‵ (fat fullShare ty4 l4 0 s-input-values) ∷ ‵ (fat fullShare ty5 l5 0 s-permutation) ∷ ‵ (fat fullShare ty6 l6 0 s-firsts) ∷ ‵ (fat fullShare ty7 l7 0 s-starts) ∷ ‵ (fat fullShare ty8 l8 0 s-groups) ∷ ‵ (fat fullShare ty9 l9 0 s-tasks) ∷ ‵ (fat fullShare ty10 l10 0 s-top) ∷ ‵ (fat fullShare ty11 l11 0 s-words) ∷ ‵ (fat fullShare ty12 l12 0 s-rows) ∷ ‵ (fat fullShare ty13 l13 0 r1) ∷ ‵ (Lies T-Update.the-row 65536 l14 0 c2-updates) ∷ ‵ (fat fullShare ty15 l15 0 r2) ∷ ‵ (fat fullShare ty16 l16 0 r3) ∷ ‵ (fat fullShare ty17 l17 0 r4) ∷ ‵ (froom ty38 l38 0) ∷ raw (Packed 𝓤 H A spare2) ∷ raw (Packed 𝓤 H A spare4) ∷ raw (Packed 𝓤 H A spare5) ∷ raw (Packed 𝓤 H A dying) ∷ []) (runs C Λ En body.t-41 (atRet En Post))
       after5 u1 r1 is1 d1 updates made-updates size-updates u2 r2 is2 c2-permutation c2-firsts c2-starts c2-groups c2-tasks c2-top c2-words c2-rows c2-updates d2 same2-permutation same2-firsts same2-starts same2-groups same2-tasks same2-top same2-words same2-rows same2-updates u3 r3 is3 d3 u4 r4 is4 =
           w-assigns ! (w-of-opd ! (w-unit-lit !)) (w-from ! (w-stop !)) (w-init ! 22 refl (tt, tt)) $
           w-returns ! (w-look ! 22 refl) $ w-forget ! 22 refl $ w-forget ! 23 refl $ w-forget ! 24 refl $ w-forget ! 25 refl $ w-forget ! 26 refl $ w-forget ! 27 refl $ w-forget ! 28 refl $ w-forget ! 29 refl $ w-forget ! 30 refl $ w-forget ! 31 refl $ w-forget ! 32 refl $ w-forget ! 33 refl $ w-forget ! 34 refl $ w-forget ! 35 refl $ w-move ! (36 ∷ []) $ use1 W (‵ (froom ty14 l14 0)) (array-dies 𝓤 H A W T-Update.the-row tt 65536 l14 0 c2-updates) $ w-forget ! 37 refl $ w-forget ! 38 refl $ w-forget ! 39 refl $
@@ -412,7 +410,7 @@ module _ {M : Type 1} (𝓤 : URA M) (H : Heap 𝓤) (A : Atoms 𝓤) (W : Given
           w-move ! (110 ∷ 0 ∷ 111 ∷ 1 ∷ 112 ∷ 2 ∷ 113 ∷ 3 ∷ 114 ∷ 4 ∷ 115 ∷ 5 ∷ 116 ∷ 6 ∷ 117 ∷ 7 ∷ 118 ∷ 8 ∷ 119 ∷ 9 ∷ 120 ∷ 10 ∷ 121 ∷ 11 ∷ 122 ∷ 12 ∷ 123 ∷ 13 ∷ 87 ∷ 14 ∷ 124 ∷ 15 ∷ 125 ∷ 16 ∷ 126 ∷ 17 ∷ 69 ∷ 18 ∷ 70 ∷ 19 ∷ 71 ∷ 20 ∷ 72 ∷ 21 ∷ 73 ∷ 22 ∷ 74 ∷ 23 ∷ 75 ∷ 24 ∷ 76 ∷ 25 ∷ 77 ∷ 26 ∷ 78 ∷ 27 ∷ 79 ∷ 28 ∷ 80 ∷ 29 ∷ 81 ∷ 30 ∷ 82 ∷ 31 ∷ 83 ∷ 32 ∷ 84 ∷ 33 ∷ 85 ∷ 34 ∷ 86 ∷ 35 ∷ 67 ∷ 36 ∷ 68 ∷ 37 ∷ 127 ∷ 38 ∷ 53 ∷ 39 ∷ 54 ∷ 40 ∷ 55 ∷ 41 ∷ 56 ∷ 42 ∷ 57 ∷ 43 ∷ 58 ∷ 44 ∷ 59 ∷ 45 ∷ 60 ∷ 46 ∷ 61 ∷ 47 ∷ 62 ∷ 48 ∷ 63 ∷ 49 ∷ 64 ∷ 50 ∷ 65 ∷ 51 ∷ 66 ∷ 52 ∷ []) $ w-homes-freed ! En $
           w-keep ! (11 ∷ 12 ∷ 13 ∷ 14 ∷ 15 ∷ 16 ∷ 17 ∷ 18 ∷ 19 ∷ 20 ∷ 21 ∷ 0 ∷ 1 ∷ 2 ∷ 3 ∷ 4 ∷ 5 ∷ 6 ∷ 7 ∷ 8 ∷ 9 ∷ 10 ∷ []) $ w-by ! (exits u1 r1 is1 d1 updates made-updates size-updates u2 r2 is2 c2-permutation c2-firsts c2-starts c2-groups c2-tasks c2-top c2-words c2-rows c2-updates d2 same2-permutation same2-firsts same2-starts same2-groups same2-tasks same2-top same2-words same2-rows same2-updates u3 r3 is3 d3 u4 r4 is4)
 
-      after4 : (u1 : Update) (r1 : Val) (is1 : Is T-Update.the-row u1 (r1 ∷ [])) (d1 : u1 ≡ noUpdate) (updates : List Update) (made-updates : updates ≡ replicate 65536 u1) (size-updates : length updates ≡ 65536) (u2 : Outcome) (r2 : Val) (is2 : Is T-Outcome.the-row u2 (r2 ∷ [])) (c2-permutation : List ℕ) (c2-firsts : List ℕ) (c2-starts : List ℕ) (c2-groups : List ℕ) (c2-tasks : List ℕ) (c2-top : List ℕ) (c2-words : List ℕ) (c2-rows : List ℕ) (c2-updates : List Update) (d2 : Settles (analyse (matrix n (input-starts) (input-rows) (input-values)) 18446744073709551615 (lentStructure (length (permutation)) (length (firsts)) (length (starts)) (length (groups)) (length (tasks)) (length (top)) (length (words)) (length (rows)) (length (updates)))) u2 (c2-permutation) (c2-firsts) (c2-starts) (c2-groups) (c2-tasks) (c2-top) (c2-words) (c2-rows) (c2-updates)) (same2-permutation : length c2-permutation ≡ length permutation) (same2-firsts : length c2-firsts ≡ length firsts) (same2-starts : length c2-starts ≡ length starts) (same2-groups : length c2-groups ≡ length groups) (same2-tasks : length c2-tasks ≡ length tasks) (same2-top : length c2-top ≡ length top) (same2-words : length c2-words ≡ length words) (same2-rows : length c2-rows ≡ length rows) (same2-updates : length c2-updates ≡ length updates) (u3 : ℕ) (r3 : Val) (is3 : Is usize u3 (r3 ∷ [])) (d3 : u3 ≤ 65536) (u4 : ℕ) (r4 : Val) (is4 : Is usize u4 (r4 ∷ [])) → Sq W (‵ (ShrSlice (named 0) κ-input-starts usize .own (ref-input-starts γ-input-starts input-starts) (sliceVal (b-input-starts, o-input-starts) (length input-starts) ∷ [])) ∷ ‵ (ShrSlice (named 1) κ-input-rows usize .own (ref-input-rows γ-input-rows input-rows) (sliceVal (b-input-rows, o-input-rows) (length input-rows) ∷ [])) ∷ ‵ (ShrSlice (named 2) κ-input-values f64 .own (ref-input-values γ-input-values input-values) (sliceVal (b-input-values, o-input-values) (length input-values) ∷ [])) ∷ ‵ (MutSlice (named 3) κ-permutation usize .own (ref-permutation γ-permutation c2-permutation) (sliceVal (b-permutation, o-permutation) (length permutation) ∷ [])) ∷ ‵ (MutSlice (named 4) κ-firsts usize .own (ref-firsts γ-firsts c2-firsts) (sliceVal (b-firsts, o-firsts) (length firsts) ∷ [])) ∷ ‵ (MutSlice (named 5) κ-starts usize .own (ref-starts γ-starts c2-starts) (sliceVal (b-starts, o-starts) (length starts) ∷ [])) ∷ ‵ (MutSlice (named 6) κ-groups usize .own (ref-groups γ-groups c2-groups) (sliceVal (b-groups, o-groups) (length groups) ∷ [])) ∷ ‵ (MutSlice (named 7) κ-tasks usize .own (ref-tasks γ-tasks c2-tasks) (sliceVal (b-tasks, o-tasks) (length tasks) ∷ [])) ∷ ‵ (MutSlice (named 8) κ-top usize .own (ref-top γ-top c2-top) (sliceVal (b-top, o-top) (length top) ∷ [])) ∷ ‵ (MutSlice (named 9) κ-words usize .own (ref-words γ-words c2-words) (sliceVal (b-words, o-words) (length words) ∷ [])) ∷ ‵ (MutSlice (named 10) κ-rows usize .own (ref-rows γ-rows c2-rows) (sliceVal (b-rows, o-rows) (length rows) ∷ [])) ∷ ‵ (flft κ-input-starts q-input-starts) ∷ ‵ (flft κ-input-rows q-input-rows) ∷ ‵ (flft κ-input-values q-input-values) ∷ ‵ (flft κ-permutation q-permutation) ∷ ‵ (flft κ-firsts q-firsts) ∷ ‵ (flft κ-starts q-starts) ∷ ‵ (flft κ-groups q-groups) ∷ ‵ (flft κ-tasks q-tasks) ∷ ‵ (flft κ-top q-top) ∷ ‵ (flft κ-words q-words) ∷ ‵ (flft κ-rows q-rows) ∷ ‵ (froom ty0 l0 0) ∷ ‵ (fat fullShare ty1 l1 0 (vint w64 n)) ∷ ‵ (fat fullShare ty2 l2 0 s-input-starts) ∷ ‵ (fat fullShare ty3 l3 0 s-input-rows) ∷ ‵ (fat fullShare ty4 l4 0 s-input-values) ∷ ‵ (fat fullShare ty5 l5 0 s-permutation) ∷ ‵ (fat fullShare ty6 l6 0 s-firsts) ∷ ‵ (fat fullShare ty7 l7 0 s-starts) ∷ ‵ (fat fullShare ty8 l8 0 s-groups) ∷ ‵ (fat fullShare ty9 l9 0 s-tasks) ∷ ‵ (fat fullShare ty10 l10 0 s-top) ∷ ‵ (fat fullShare ty11 l11 0 s-words) ∷ ‵ (fat fullShare ty12 l12 0 s-rows) ∷ ‵ (fat fullShare ty13 l13 0 r1) ∷ ‵ (Lies T-Update.the-row 65536 l14 0 c2-updates) ∷ ‵ (fat fullShare ty15 l15 0 r2) ∷ ‵ (fat fullShare ty16 l16 0 r3) ∷ ‵ (fat fullShare ty17 l17 0 r4) ∷ ‵ (froom ty38 l38 0) ∷ raw (Packed 𝓤 H A spare2) ∷ raw (Packed 𝓤 H A spare4) ∷ raw (Packed 𝓤 H A spare5) ∷ raw (Packed 𝓤 H A dying) ∷ []) (runs C Λ En body.t-26 (atRet En Post))
+      after4 : (u1 : Update) (r1 : Val) (is1 : Is T-Update.the-row u1 (r1 ∷ [])) (d1 : u1 ≡ noUpdate) (updates : List Update) (made-updates : updates ≡ replicate 65536 u1) (size-updates : length updates ≡ 65536) (u2 : Outcome) (r2 : Val) (is2 : Is T-Outcome.the-row u2 (r2 ∷ [])) (c2-permutation : List ℕ) (c2-firsts : List ℕ) (c2-starts : List ℕ) (c2-groups : List ℕ) (c2-tasks : List ℕ) (c2-top : List ℕ) (c2-words : List ℕ) (c2-rows : List ℕ) (c2-updates : List Update) (d2 : Analyses (matrix n (input-starts) (input-rows) (input-values)) 18446744073709551615 (record { permutation = length (permutation); firsts = length (firsts); starts = length (starts); groups = length (groups); tasks = length (tasks); top = length (top); words = length (words); floats = 0; rows = length (rows); updates = length (updates); values = 0 }) (record { returned = u2; areas = record { permutation = c2-permutation; firsts = c2-firsts; starts = c2-starts; groups = c2-groups; tasks = c2-tasks; top = c2-top; words = c2-words; floats = []; rows = c2-rows; updates = c2-updates; values = [] } })) (same2-permutation : length c2-permutation ≡ length permutation) (same2-firsts : length c2-firsts ≡ length firsts) (same2-starts : length c2-starts ≡ length starts) (same2-groups : length c2-groups ≡ length groups) (same2-tasks : length c2-tasks ≡ length tasks) (same2-top : length c2-top ≡ length top) (same2-words : length c2-words ≡ length words) (same2-rows : length c2-rows ≡ length rows) (same2-updates : length c2-updates ≡ length updates) (u3 : ℕ) (r3 : Val) (is3 : Is usize u3 (r3 ∷ [])) (d3 : u3 ≤ 65536) (u4 : ℕ) (r4 : Val) (is4 : Is usize u4 (r4 ∷ [])) → Sq W (‵ (ShrSlice (named 0) κ-input-starts usize .own (ref-input-starts γ-input-starts input-starts) (sliceVal (b-input-starts, o-input-starts) (length input-starts) ∷ [])) ∷ ‵ (ShrSlice (named 1) κ-input-rows usize .own (ref-input-rows γ-input-rows input-rows) (sliceVal (b-input-rows, o-input-rows) (length input-rows) ∷ [])) ∷ ‵ (ShrSlice (named 2) κ-input-values f64 .own (ref-input-values γ-input-values input-values) (sliceVal (b-input-values, o-input-values) (length input-values) ∷ [])) ∷ ‵ (MutSlice (named 3) κ-permutation usize .own (ref-permutation γ-permutation c2-permutation) (sliceVal (b-permutation, o-permutation) (length permutation) ∷ [])) ∷ ‵ (MutSlice (named 4) κ-firsts usize .own (ref-firsts γ-firsts c2-firsts) (sliceVal (b-firsts, o-firsts) (length firsts) ∷ [])) ∷ ‵ (MutSlice (named 5) κ-starts usize .own (ref-starts γ-starts c2-starts) (sliceVal (b-starts, o-starts) (length starts) ∷ [])) ∷ ‵ (MutSlice (named 6) κ-groups usize .own (ref-groups γ-groups c2-groups) (sliceVal (b-groups, o-groups) (length groups) ∷ [])) ∷ ‵ (MutSlice (named 7) κ-tasks usize .own (ref-tasks γ-tasks c2-tasks) (sliceVal (b-tasks, o-tasks) (length tasks) ∷ [])) ∷ ‵ (MutSlice (named 8) κ-top usize .own (ref-top γ-top c2-top) (sliceVal (b-top, o-top) (length top) ∷ [])) ∷ ‵ (MutSlice (named 9) κ-words usize .own (ref-words γ-words c2-words) (sliceVal (b-words, o-words) (length words) ∷ [])) ∷ ‵ (MutSlice (named 10) κ-rows usize .own (ref-rows γ-rows c2-rows) (sliceVal (b-rows, o-rows) (length rows) ∷ [])) ∷ ‵ (flft κ-input-starts q-input-starts) ∷ ‵ (flft κ-input-rows q-input-rows) ∷ ‵ (flft κ-input-values q-input-values) ∷ ‵ (flft κ-permutation q-permutation) ∷ ‵ (flft κ-firsts q-firsts) ∷ ‵ (flft κ-starts q-starts) ∷ ‵ (flft κ-groups q-groups) ∷ ‵ (flft κ-tasks q-tasks) ∷ ‵ (flft κ-top q-top) ∷ ‵ (flft κ-words q-words) ∷ ‵ (flft κ-rows q-rows) ∷ ‵ (froom ty0 l0 0) ∷ ‵ (fat fullShare ty1 l1 0 (vint w64 n)) ∷ ‵ (fat fullShare ty2 l2 0 s-input-starts) ∷ ‵ (fat fullShare ty3 l3 0 s-input-rows) ∷ ‵ (fat fullShare ty4 l4 0 s-input-values) ∷ ‵ (fat fullShare ty5 l5 0 s-permutation) ∷ ‵ (fat fullShare ty6 l6 0 s-firsts) ∷ ‵ (fat fullShare ty7 l7 0 s-starts) ∷ ‵ (fat fullShare ty8 l8 0 s-groups) ∷ ‵ (fat fullShare ty9 l9 0 s-tasks) ∷ ‵ (fat fullShare ty10 l10 0 s-top) ∷ ‵ (fat fullShare ty11 l11 0 s-words) ∷ ‵ (fat fullShare ty12 l12 0 s-rows) ∷ ‵ (fat fullShare ty13 l13 0 r1) ∷ ‵ (Lies T-Update.the-row 65536 l14 0 c2-updates) ∷ ‵ (fat fullShare ty15 l15 0 r2) ∷ ‵ (fat fullShare ty16 l16 0 r3) ∷ ‵ (fat fullShare ty17 l17 0 r4) ∷ ‵ (froom ty38 l38 0) ∷ raw (Packed 𝓤 H A spare2) ∷ raw (Packed 𝓤 H A spare4) ∷ raw (Packed 𝓤 H A spare5) ∷ raw (Packed 𝓤 H A dying) ∷ []) (runs C Λ En body.t-26 (atRet En Post))
       after4 u1 r1 is1 d1 updates made-updates size-updates u2 r2 is2 c2-permutation c2-firsts c2-starts c2-groups c2-tasks c2-top c2-words c2-rows c2-updates d2 same2-permutation same2-firsts same2-starts same2-groups same2-tasks same2-top same2-words same2-rows same2-updates u3 r3 is3 d3 u4 r4 is4 =
           w-move ! (43 ∷ []) $ w-unpack ! (‵ (froom ty39 l39 0) ∷ ‵ (froom ty40 l40 0) ∷ ‵ (froom ty41 l41 0) ∷ ‵ (froom ty42 l42 0) ∷ ‵ (froom ty43 l43 0) ∷ ‵ (froom ty44 l44 0) ∷ ‵ (froom ty45 l45 0) ∷ ‵ (froom ty46 l46 0) ∷ ‵ (froom ty47 l47 0) ∷ ‵ (froom ty48 l48 0) ∷ ‵ (froom ty49 l49 0) ∷ ‵ (froom ty50 l50 0) ∷ ‵ (froom ty51 l51 0) ∷ ‵ (froom ty52 l52 0) ∷ []) $
           w-move ! (14 ∷ 15 ∷ 16 ∷ 23 ∷ 25 ∷ 26 ∷ 27 ∷ 34 ∷ 38 ∷ 39 ∷ 40 ∷ 47 ∷ 49 ∷ 50 ∷ 52 ∷ 55 ∷ 56 ∷ 57 ∷ []) $ w-pack ! (‵ (ShrSlice (named 0) κ-input-starts usize .own (ref-input-starts γ-input-starts input-starts) (sliceVal (b-input-starts, o-input-starts) (length input-starts) ∷ [])) ∷ ‵ (ShrSlice (named 1) κ-input-rows usize .own (ref-input-rows γ-input-rows input-rows) (sliceVal (b-input-rows, o-input-rows) (length input-rows) ∷ [])) ∷ ‵ (ShrSlice (named 2) κ-input-values f64 .own (ref-input-values γ-input-values input-values) (sliceVal (b-input-values, o-input-values) (length input-values) ∷ [])) ∷ ‵ (MutSlice (named 9) κ-words usize .own (ref-words γ-words c2-words) (sliceVal (b-words, o-words) (length words) ∷ [])) ∷ ‵ (flft κ-input-starts q-input-starts) ∷ ‵ (flft κ-input-rows q-input-rows) ∷ ‵ (flft κ-input-values q-input-values) ∷ ‵ (flft κ-words q-words) ∷ ‵ (fat fullShare ty2 l2 0 s-input-starts) ∷ ‵ (fat fullShare ty3 l3 0 s-input-rows) ∷ ‵ (fat fullShare ty4 l4 0 s-input-values) ∷ ‵ (fat fullShare ty11 l11 0 s-words) ∷ ‵ (fat fullShare ty13 l13 0 r1) ∷ ‵ (Lies T-Update.the-row 65536 l14 0 c2-updates) ∷ ‵ (fat fullShare ty16 l16 0 r3) ∷ raw (Packed 𝓤 H A spare2) ∷ raw (Packed 𝓤 H A spare4) ∷ raw (Packed 𝓤 H A dying) ∷ []) $
@@ -455,7 +453,7 @@ module _ {M : Type 1} (𝓤 : URA M) (H : Heap 𝓤) (A : Atoms 𝓤) (W : Given
           w-move ! (15 ∷ []) $ w-unpack ! (‵ (ShrSlice (named 0) κ-input-starts usize .own (ref-input-starts γ-input-starts input-starts) (sliceVal (b-input-starts, o-input-starts) (length input-starts) ∷ [])) ∷ ‵ (ShrSlice (named 1) κ-input-rows usize .own (ref-input-rows γ-input-rows input-rows) (sliceVal (b-input-rows, o-input-rows) (length input-rows) ∷ [])) ∷ ‵ (ShrSlice (named 2) κ-input-values f64 .own (ref-input-values γ-input-values input-values) (sliceVal (b-input-values, o-input-values) (length input-values) ∷ [])) ∷ ‵ (MutSlice (named 9) κ-words usize .own (ref-words γ-words c2-words) (sliceVal (b-words, o-words) (length words) ∷ [])) ∷ ‵ (flft κ-input-starts q-input-starts) ∷ ‵ (flft κ-input-rows q-input-rows) ∷ ‵ (flft κ-input-values q-input-values) ∷ ‵ (flft κ-words q-words) ∷ ‵ (fat fullShare ty2 l2 0 s-input-starts) ∷ ‵ (fat fullShare ty3 l3 0 s-input-rows) ∷ ‵ (fat fullShare ty4 l4 0 s-input-values) ∷ ‵ (fat fullShare ty11 l11 0 s-words) ∷ ‵ (fat fullShare ty13 l13 0 r1) ∷ ‵ (Lies T-Update.the-row 65536 l14 0 c2-updates) ∷ ‵ (fat fullShare ty16 l16 0 r3) ∷ raw (Packed 𝓤 H A spare2) ∷ raw (Packed 𝓤 H A spare4) ∷ raw (Packed 𝓤 H A dying) ∷ []) $
           w-keep ! (0 ∷ 1 ∷ 2 ∷ 31 ∷ 29 ∷ 27 ∷ 25 ∷ 23 ∷ 21 ∷ 3 ∷ 19 ∷ 4 ∷ 5 ∷ 6 ∷ 32 ∷ 30 ∷ 28 ∷ 26 ∷ 24 ∷ 22 ∷ 7 ∷ 20 ∷ 33 ∷ 34 ∷ 8 ∷ 9 ∷ 10 ∷ 35 ∷ 36 ∷ 37 ∷ 38 ∷ 39 ∷ 40 ∷ 11 ∷ 41 ∷ 12 ∷ 13 ∷ 42 ∷ 14 ∷ 43 ∷ 44 ∷ 15 ∷ 16 ∷ 18 ∷ 17 ∷ []) $ after5 u1 r1 is1 d1 updates made-updates size-updates u2 r2 is2 c2-permutation c2-firsts c2-starts c2-groups c2-tasks c2-top c2-words c2-rows c2-updates d2 same2-permutation same2-firsts same2-starts same2-groups same2-tasks same2-top same2-words same2-rows same2-updates u3 r3 is3 d3 u4 r4 is4)))))))))))
 
-      after3 : (u1 : Update) (r1 : Val) (is1 : Is T-Update.the-row u1 (r1 ∷ [])) (d1 : u1 ≡ noUpdate) (updates : List Update) (made-updates : updates ≡ replicate 65536 u1) (size-updates : length updates ≡ 65536) (u2 : Outcome) (r2 : Val) (is2 : Is T-Outcome.the-row u2 (r2 ∷ [])) (c2-permutation : List ℕ) (c2-firsts : List ℕ) (c2-starts : List ℕ) (c2-groups : List ℕ) (c2-tasks : List ℕ) (c2-top : List ℕ) (c2-words : List ℕ) (c2-rows : List ℕ) (c2-updates : List Update) (d2 : Settles (analyse (matrix n (input-starts) (input-rows) (input-values)) 18446744073709551615 (lentStructure (length (permutation)) (length (firsts)) (length (starts)) (length (groups)) (length (tasks)) (length (top)) (length (words)) (length (rows)) (length (updates)))) u2 (c2-permutation) (c2-firsts) (c2-starts) (c2-groups) (c2-tasks) (c2-top) (c2-words) (c2-rows) (c2-updates)) (same2-permutation : length c2-permutation ≡ length permutation) (same2-firsts : length c2-firsts ≡ length firsts) (same2-starts : length c2-starts ≡ length starts) (same2-groups : length c2-groups ≡ length groups) (same2-tasks : length c2-tasks ≡ length tasks) (same2-top : length c2-top ≡ length top) (same2-words : length c2-words ≡ length words) (same2-rows : length c2-rows ≡ length rows) (same2-updates : length c2-updates ≡ length updates) (u3 : ℕ) (r3 : Val) (is3 : Is usize u3 (r3 ∷ [])) (d3 : u3 ≤ 65536) → Sq W (‵ (ShrSlice (named 0) κ-input-starts usize .own (ref-input-starts γ-input-starts input-starts) (sliceVal (b-input-starts, o-input-starts) (length input-starts) ∷ [])) ∷ ‵ (ShrSlice (named 1) κ-input-rows usize .own (ref-input-rows γ-input-rows input-rows) (sliceVal (b-input-rows, o-input-rows) (length input-rows) ∷ [])) ∷ ‵ (ShrSlice (named 2) κ-input-values f64 .own (ref-input-values γ-input-values input-values) (sliceVal (b-input-values, o-input-values) (length input-values) ∷ [])) ∷ ‵ (MutSlice (named 3) κ-permutation usize .own (ref-permutation γ-permutation c2-permutation) (sliceVal (b-permutation, o-permutation) (length permutation) ∷ [])) ∷ ‵ (MutSlice (named 4) κ-firsts usize .own (ref-firsts γ-firsts c2-firsts) (sliceVal (b-firsts, o-firsts) (length firsts) ∷ [])) ∷ ‵ (MutSlice (named 5) κ-starts usize .own (ref-starts γ-starts c2-starts) (sliceVal (b-starts, o-starts) (length starts) ∷ [])) ∷ ‵ (MutSlice (named 6) κ-groups usize .own (ref-groups γ-groups c2-groups) (sliceVal (b-groups, o-groups) (length groups) ∷ [])) ∷ ‵ (MutSlice (named 7) κ-tasks usize .own (ref-tasks γ-tasks c2-tasks) (sliceVal (b-tasks, o-tasks) (length tasks) ∷ [])) ∷ ‵ (MutSlice (named 8) κ-top usize .own (ref-top γ-top c2-top) (sliceVal (b-top, o-top) (length top) ∷ [])) ∷ ‵ (MutSlice (named 9) κ-words usize .own (ref-words γ-words c2-words) (sliceVal (b-words, o-words) (length words) ∷ [])) ∷ ‵ (MutSlice (named 10) κ-rows usize .own (ref-rows γ-rows c2-rows) (sliceVal (b-rows, o-rows) (length rows) ∷ [])) ∷ ‵ (flft κ-input-starts q-input-starts) ∷ ‵ (flft κ-input-rows q-input-rows) ∷ ‵ (flft κ-input-values q-input-values) ∷ ‵ (flft κ-permutation q-permutation) ∷ ‵ (flft κ-firsts q-firsts) ∷ ‵ (flft κ-starts q-starts) ∷ ‵ (flft κ-groups q-groups) ∷ ‵ (flft κ-tasks q-tasks) ∷ ‵ (flft κ-top q-top) ∷ ‵ (flft κ-words q-words) ∷ ‵ (flft κ-rows q-rows) ∷ ‵ (froom ty0 l0 0) ∷ ‵ (fat fullShare ty1 l1 0 (vint w64 n)) ∷ ‵ (fat fullShare ty2 l2 0 s-input-starts) ∷ ‵ (fat fullShare ty3 l3 0 s-input-rows) ∷ ‵ (fat fullShare ty4 l4 0 s-input-values) ∷ ‵ (fat fullShare ty5 l5 0 s-permutation) ∷ ‵ (fat fullShare ty6 l6 0 s-firsts) ∷ ‵ (fat fullShare ty7 l7 0 s-starts) ∷ ‵ (fat fullShare ty8 l8 0 s-groups) ∷ ‵ (fat fullShare ty9 l9 0 s-tasks) ∷ ‵ (fat fullShare ty10 l10 0 s-top) ∷ ‵ (fat fullShare ty11 l11 0 s-words) ∷ ‵ (fat fullShare ty12 l12 0 s-rows) ∷ ‵ (fat fullShare ty13 l13 0 r1) ∷ ‵ (Lies T-Update.the-row 65536 l14 0 c2-updates) ∷ ‵ (fat fullShare ty15 l15 0 r2) ∷ ‵ (fat fullShare ty16 l16 0 r3) ∷ ‵ (froom ty17 l17 0) ∷ ‵ (froom ty38 l38 0) ∷ raw (Packed 𝓤 H A spare2) ∷ raw (Packed 𝓤 H A spare4) ∷ raw (Packed 𝓤 H A spare5) ∷ raw (Packed 𝓤 H A dying) ∷ []) (runs C Λ En body.t-23 (atRet En Post))
+      after3 : (u1 : Update) (r1 : Val) (is1 : Is T-Update.the-row u1 (r1 ∷ [])) (d1 : u1 ≡ noUpdate) (updates : List Update) (made-updates : updates ≡ replicate 65536 u1) (size-updates : length updates ≡ 65536) (u2 : Outcome) (r2 : Val) (is2 : Is T-Outcome.the-row u2 (r2 ∷ [])) (c2-permutation : List ℕ) (c2-firsts : List ℕ) (c2-starts : List ℕ) (c2-groups : List ℕ) (c2-tasks : List ℕ) (c2-top : List ℕ) (c2-words : List ℕ) (c2-rows : List ℕ) (c2-updates : List Update) (d2 : Analyses (matrix n (input-starts) (input-rows) (input-values)) 18446744073709551615 (record { permutation = length (permutation); firsts = length (firsts); starts = length (starts); groups = length (groups); tasks = length (tasks); top = length (top); words = length (words); floats = 0; rows = length (rows); updates = length (updates); values = 0 }) (record { returned = u2; areas = record { permutation = c2-permutation; firsts = c2-firsts; starts = c2-starts; groups = c2-groups; tasks = c2-tasks; top = c2-top; words = c2-words; floats = []; rows = c2-rows; updates = c2-updates; values = [] } })) (same2-permutation : length c2-permutation ≡ length permutation) (same2-firsts : length c2-firsts ≡ length firsts) (same2-starts : length c2-starts ≡ length starts) (same2-groups : length c2-groups ≡ length groups) (same2-tasks : length c2-tasks ≡ length tasks) (same2-top : length c2-top ≡ length top) (same2-words : length c2-words ≡ length words) (same2-rows : length c2-rows ≡ length rows) (same2-updates : length c2-updates ≡ length updates) (u3 : ℕ) (r3 : Val) (is3 : Is usize u3 (r3 ∷ [])) (d3 : u3 ≤ 65536) → Sq W (‵ (ShrSlice (named 0) κ-input-starts usize .own (ref-input-starts γ-input-starts input-starts) (sliceVal (b-input-starts, o-input-starts) (length input-starts) ∷ [])) ∷ ‵ (ShrSlice (named 1) κ-input-rows usize .own (ref-input-rows γ-input-rows input-rows) (sliceVal (b-input-rows, o-input-rows) (length input-rows) ∷ [])) ∷ ‵ (ShrSlice (named 2) κ-input-values f64 .own (ref-input-values γ-input-values input-values) (sliceVal (b-input-values, o-input-values) (length input-values) ∷ [])) ∷ ‵ (MutSlice (named 3) κ-permutation usize .own (ref-permutation γ-permutation c2-permutation) (sliceVal (b-permutation, o-permutation) (length permutation) ∷ [])) ∷ ‵ (MutSlice (named 4) κ-firsts usize .own (ref-firsts γ-firsts c2-firsts) (sliceVal (b-firsts, o-firsts) (length firsts) ∷ [])) ∷ ‵ (MutSlice (named 5) κ-starts usize .own (ref-starts γ-starts c2-starts) (sliceVal (b-starts, o-starts) (length starts) ∷ [])) ∷ ‵ (MutSlice (named 6) κ-groups usize .own (ref-groups γ-groups c2-groups) (sliceVal (b-groups, o-groups) (length groups) ∷ [])) ∷ ‵ (MutSlice (named 7) κ-tasks usize .own (ref-tasks γ-tasks c2-tasks) (sliceVal (b-tasks, o-tasks) (length tasks) ∷ [])) ∷ ‵ (MutSlice (named 8) κ-top usize .own (ref-top γ-top c2-top) (sliceVal (b-top, o-top) (length top) ∷ [])) ∷ ‵ (MutSlice (named 9) κ-words usize .own (ref-words γ-words c2-words) (sliceVal (b-words, o-words) (length words) ∷ [])) ∷ ‵ (MutSlice (named 10) κ-rows usize .own (ref-rows γ-rows c2-rows) (sliceVal (b-rows, o-rows) (length rows) ∷ [])) ∷ ‵ (flft κ-input-starts q-input-starts) ∷ ‵ (flft κ-input-rows q-input-rows) ∷ ‵ (flft κ-input-values q-input-values) ∷ ‵ (flft κ-permutation q-permutation) ∷ ‵ (flft κ-firsts q-firsts) ∷ ‵ (flft κ-starts q-starts) ∷ ‵ (flft κ-groups q-groups) ∷ ‵ (flft κ-tasks q-tasks) ∷ ‵ (flft κ-top q-top) ∷ ‵ (flft κ-words q-words) ∷ ‵ (flft κ-rows q-rows) ∷ ‵ (froom ty0 l0 0) ∷ ‵ (fat fullShare ty1 l1 0 (vint w64 n)) ∷ ‵ (fat fullShare ty2 l2 0 s-input-starts) ∷ ‵ (fat fullShare ty3 l3 0 s-input-rows) ∷ ‵ (fat fullShare ty4 l4 0 s-input-values) ∷ ‵ (fat fullShare ty5 l5 0 s-permutation) ∷ ‵ (fat fullShare ty6 l6 0 s-firsts) ∷ ‵ (fat fullShare ty7 l7 0 s-starts) ∷ ‵ (fat fullShare ty8 l8 0 s-groups) ∷ ‵ (fat fullShare ty9 l9 0 s-tasks) ∷ ‵ (fat fullShare ty10 l10 0 s-top) ∷ ‵ (fat fullShare ty11 l11 0 s-words) ∷ ‵ (fat fullShare ty12 l12 0 s-rows) ∷ ‵ (fat fullShare ty13 l13 0 r1) ∷ ‵ (Lies T-Update.the-row 65536 l14 0 c2-updates) ∷ ‵ (fat fullShare ty15 l15 0 r2) ∷ ‵ (fat fullShare ty16 l16 0 r3) ∷ ‵ (froom ty17 l17 0) ∷ ‵ (froom ty38 l38 0) ∷ raw (Packed 𝓤 H A spare2) ∷ raw (Packed 𝓤 H A spare4) ∷ raw (Packed 𝓤 H A spare5) ∷ raw (Packed 𝓤 H A dying) ∷ []) (runs C Λ En body.t-23 (atRet En Post))
       after3 u1 r1 is1 d1 updates made-updates size-updates u2 r2 is2 c2-permutation c2-firsts c2-starts c2-groups c2-tasks c2-top c2-words c2-rows c2-updates d2 same2-permutation same2-firsts same2-starts same2-groups same2-tasks same2-top same2-words same2-rows same2-updates u3 r3 is3 d3 =
           w-move ! (42 ∷ []) $ w-unpack ! (‵ (froom ty36 l36 0) ∷ ‵ (froom ty37 l37 0) ∷ []) $
           w-move ! (2 ∷ 3 ∷ 4 ∷ 5 ∷ 6 ∷ 7 ∷ 8 ∷ 9 ∷ 10 ∷ 11 ∷ 12 ∷ 13 ∷ 14 ∷ 15 ∷ 16 ∷ 17 ∷ 18 ∷ 19 ∷ 20 ∷ 21 ∷ 22 ∷ 23 ∷ 24 ∷ 25 ∷ 26 ∷ 27 ∷ 28 ∷ 29 ∷ 30 ∷ 31 ∷ 32 ∷ 33 ∷ 34 ∷ 35 ∷ 36 ∷ 37 ∷ 39 ∷ 42 ∷ 43 ∷ 44 ∷ 45 ∷ []) $ w-pack ! (‵ (ShrSlice (named 0) κ-input-starts usize .own (ref-input-starts γ-input-starts input-starts) (sliceVal (b-input-starts, o-input-starts) (length input-starts) ∷ [])) ∷ ‵ (ShrSlice (named 1) κ-input-rows usize .own (ref-input-rows γ-input-rows input-rows) (sliceVal (b-input-rows, o-input-rows) (length input-rows) ∷ [])) ∷ ‵ (ShrSlice (named 2) κ-input-values f64 .own (ref-input-values γ-input-values input-values) (sliceVal (b-input-values, o-input-values) (length input-values) ∷ [])) ∷ ‵ (MutSlice (named 3) κ-permutation usize .own (ref-permutation γ-permutation c2-permutation) (sliceVal (b-permutation, o-permutation) (length permutation) ∷ [])) ∷ ‵ (MutSlice (named 4) κ-firsts usize .own (ref-firsts γ-firsts c2-firsts) (sliceVal (b-firsts, o-firsts) (length firsts) ∷ [])) ∷ ‵ (MutSlice (named 5) κ-starts usize .own (ref-starts γ-starts c2-starts) (sliceVal (b-starts, o-starts) (length starts) ∷ [])) ∷ ‵ (MutSlice (named 6) κ-groups usize .own (ref-groups γ-groups c2-groups) (sliceVal (b-groups, o-groups) (length groups) ∷ [])) ∷ ‵ (MutSlice (named 7) κ-tasks usize .own (ref-tasks γ-tasks c2-tasks) (sliceVal (b-tasks, o-tasks) (length tasks) ∷ [])) ∷ ‵ (MutSlice (named 8) κ-top usize .own (ref-top γ-top c2-top) (sliceVal (b-top, o-top) (length top) ∷ [])) ∷ ‵ (MutSlice (named 9) κ-words usize .own (ref-words γ-words c2-words) (sliceVal (b-words, o-words) (length words) ∷ [])) ∷ ‵ (MutSlice (named 10) κ-rows usize .own (ref-rows γ-rows c2-rows) (sliceVal (b-rows, o-rows) (length rows) ∷ [])) ∷ ‵ (flft κ-input-starts q-input-starts) ∷ ‵ (flft κ-input-rows q-input-rows) ∷ ‵ (flft κ-input-values q-input-values) ∷ ‵ (flft κ-permutation q-permutation) ∷ ‵ (flft κ-firsts q-firsts) ∷ ‵ (flft κ-starts q-starts) ∷ ‵ (flft κ-groups q-groups) ∷ ‵ (flft κ-tasks q-tasks) ∷ ‵ (flft κ-top q-top) ∷ ‵ (flft κ-words q-words) ∷ ‵ (flft κ-rows q-rows) ∷ ‵ (froom ty0 l0 0) ∷ ‵ (fat fullShare ty1 l1 0 (vint w64 n)) ∷ ‵ (fat fullShare ty2 l2 0 s-input-starts) ∷ ‵ (fat fullShare ty3 l3 0 s-input-rows) ∷ ‵ (fat fullShare ty4 l4 0 s-input-values) ∷ ‵ (fat fullShare ty5 l5 0 s-permutation) ∷ ‵ (fat fullShare ty6 l6 0 s-firsts) ∷ ‵ (fat fullShare ty7 l7 0 s-starts) ∷ ‵ (fat fullShare ty8 l8 0 s-groups) ∷ ‵ (fat fullShare ty9 l9 0 s-tasks) ∷ ‵ (fat fullShare ty10 l10 0 s-top) ∷ ‵ (fat fullShare ty11 l11 0 s-words) ∷ ‵ (fat fullShare ty12 l12 0 s-rows) ∷ ‵ (fat fullShare ty13 l13 0 r1) ∷ ‵ (fat fullShare ty15 l15 0 r2) ∷ ‵ (froom ty38 l38 0) ∷ raw (Packed 𝓤 H A spare2) ∷ raw (Packed 𝓤 H A spare5) ∷ raw (Packed 𝓤 H A dying) ∷ []) $
@@ -478,7 +476,7 @@ module _ {M : Type 1} (𝓤 : URA M) (H : Heap 𝓤) (A : Atoms 𝓤) (W : Given
           w-move ! (2 ∷ []) $ w-unpack ! (‵ (ShrSlice (named 0) κ-input-starts usize .own (ref-input-starts γ-input-starts input-starts) (sliceVal (b-input-starts, o-input-starts) (length input-starts) ∷ [])) ∷ ‵ (ShrSlice (named 1) κ-input-rows usize .own (ref-input-rows γ-input-rows input-rows) (sliceVal (b-input-rows, o-input-rows) (length input-rows) ∷ [])) ∷ ‵ (ShrSlice (named 2) κ-input-values f64 .own (ref-input-values γ-input-values input-values) (sliceVal (b-input-values, o-input-values) (length input-values) ∷ [])) ∷ ‵ (MutSlice (named 3) κ-permutation usize .own (ref-permutation γ-permutation c2-permutation) (sliceVal (b-permutation, o-permutation) (length permutation) ∷ [])) ∷ ‵ (MutSlice (named 4) κ-firsts usize .own (ref-firsts γ-firsts c2-firsts) (sliceVal (b-firsts, o-firsts) (length firsts) ∷ [])) ∷ ‵ (MutSlice (named 5) κ-starts usize .own (ref-starts γ-starts c2-starts) (sliceVal (b-starts, o-starts) (length starts) ∷ [])) ∷ ‵ (MutSlice (named 6) κ-groups usize .own (ref-groups γ-groups c2-groups) (sliceVal (b-groups, o-groups) (length groups) ∷ [])) ∷ ‵ (MutSlice (named 7) κ-tasks usize .own (ref-tasks γ-tasks c2-tasks) (sliceVal (b-tasks, o-tasks) (length tasks) ∷ [])) ∷ ‵ (MutSlice (named 8) κ-top usize .own (ref-top γ-top c2-top) (sliceVal (b-top, o-top) (length top) ∷ [])) ∷ ‵ (MutSlice (named 9) κ-words usize .own (ref-words γ-words c2-words) (sliceVal (b-words, o-words) (length words) ∷ [])) ∷ ‵ (MutSlice (named 10) κ-rows usize .own (ref-rows γ-rows c2-rows) (sliceVal (b-rows, o-rows) (length rows) ∷ [])) ∷ ‵ (flft κ-input-starts q-input-starts) ∷ ‵ (flft κ-input-rows q-input-rows) ∷ ‵ (flft κ-input-values q-input-values) ∷ ‵ (flft κ-permutation q-permutation) ∷ ‵ (flft κ-firsts q-firsts) ∷ ‵ (flft κ-starts q-starts) ∷ ‵ (flft κ-groups q-groups) ∷ ‵ (flft κ-tasks q-tasks) ∷ ‵ (flft κ-top q-top) ∷ ‵ (flft κ-words q-words) ∷ ‵ (flft κ-rows q-rows) ∷ ‵ (froom ty0 l0 0) ∷ ‵ (fat fullShare ty1 l1 0 (vint w64 n)) ∷ ‵ (fat fullShare ty2 l2 0 s-input-starts) ∷ ‵ (fat fullShare ty3 l3 0 s-input-rows) ∷ ‵ (fat fullShare ty4 l4 0 s-input-values) ∷ ‵ (fat fullShare ty5 l5 0 s-permutation) ∷ ‵ (fat fullShare ty6 l6 0 s-firsts) ∷ ‵ (fat fullShare ty7 l7 0 s-starts) ∷ ‵ (fat fullShare ty8 l8 0 s-groups) ∷ ‵ (fat fullShare ty9 l9 0 s-tasks) ∷ ‵ (fat fullShare ty10 l10 0 s-top) ∷ ‵ (fat fullShare ty11 l11 0 s-words) ∷ ‵ (fat fullShare ty12 l12 0 s-rows) ∷ ‵ (fat fullShare ty13 l13 0 r1) ∷ ‵ (fat fullShare ty15 l15 0 r2) ∷ ‵ (froom ty38 l38 0) ∷ raw (Packed 𝓤 H A spare2) ∷ raw (Packed 𝓤 H A spare5) ∷ raw (Packed 𝓤 H A dying) ∷ []) $
           w-keep ! (0 ∷ 1 ∷ 2 ∷ 3 ∷ 4 ∷ 5 ∷ 6 ∷ 7 ∷ 8 ∷ 9 ∷ 10 ∷ 11 ∷ 12 ∷ 13 ∷ 14 ∷ 15 ∷ 16 ∷ 17 ∷ 18 ∷ 19 ∷ 20 ∷ 21 ∷ 22 ∷ 23 ∷ 24 ∷ 25 ∷ 26 ∷ 27 ∷ 28 ∷ 29 ∷ 30 ∷ 31 ∷ 32 ∷ 33 ∷ 34 ∷ 35 ∷ 42 ∷ 36 ∷ 43 ∷ 44 ∷ 37 ∷ 38 ∷ 41 ∷ 39 ∷ 40 ∷ []) $ after4 u1 r1 is1 d1 updates made-updates size-updates u2 r2 is2 c2-permutation c2-firsts c2-starts c2-groups c2-tasks c2-top c2-words c2-rows c2-updates d2 same2-permutation same2-firsts same2-starts same2-groups same2-tasks same2-top same2-words same2-rows same2-updates u3 r3 is3 d3 u4 r4 is4))))))
 
-      after2 : (u1 : Update) (r1 : Val) (is1 : Is T-Update.the-row u1 (r1 ∷ [])) (d1 : u1 ≡ noUpdate) (updates : List Update) (made-updates : updates ≡ replicate 65536 u1) (size-updates : length updates ≡ 65536) (u2 : Outcome) (r2 : Val) (is2 : Is T-Outcome.the-row u2 (r2 ∷ [])) (c2-permutation : List ℕ) (c2-firsts : List ℕ) (c2-starts : List ℕ) (c2-groups : List ℕ) (c2-tasks : List ℕ) (c2-top : List ℕ) (c2-words : List ℕ) (c2-rows : List ℕ) (c2-updates : List Update) (d2 : Settles (analyse (matrix n (input-starts) (input-rows) (input-values)) 18446744073709551615 (lentStructure (length (permutation)) (length (firsts)) (length (starts)) (length (groups)) (length (tasks)) (length (top)) (length (words)) (length (rows)) (length (updates)))) u2 (c2-permutation) (c2-firsts) (c2-starts) (c2-groups) (c2-tasks) (c2-top) (c2-words) (c2-rows) (c2-updates)) (same2-permutation : length c2-permutation ≡ length permutation) (same2-firsts : length c2-firsts ≡ length firsts) (same2-starts : length c2-starts ≡ length starts) (same2-groups : length c2-groups ≡ length groups) (same2-tasks : length c2-tasks ≡ length tasks) (same2-top : length c2-top ≡ length top) (same2-words : length c2-words ≡ length words) (same2-rows : length c2-rows ≡ length rows) (same2-updates : length c2-updates ≡ length updates) → Sq W (‵ (ShrSlice (named 0) κ-input-starts usize .own (ref-input-starts γ-input-starts input-starts) (sliceVal (b-input-starts, o-input-starts) (length input-starts) ∷ [])) ∷ ‵ (ShrSlice (named 1) κ-input-rows usize .own (ref-input-rows γ-input-rows input-rows) (sliceVal (b-input-rows, o-input-rows) (length input-rows) ∷ [])) ∷ ‵ (ShrSlice (named 2) κ-input-values f64 .own (ref-input-values γ-input-values input-values) (sliceVal (b-input-values, o-input-values) (length input-values) ∷ [])) ∷ ‵ (MutSlice (named 3) κ-permutation usize .own (ref-permutation γ-permutation c2-permutation) (sliceVal (b-permutation, o-permutation) (length permutation) ∷ [])) ∷ ‵ (MutSlice (named 4) κ-firsts usize .own (ref-firsts γ-firsts c2-firsts) (sliceVal (b-firsts, o-firsts) (length firsts) ∷ [])) ∷ ‵ (MutSlice (named 5) κ-starts usize .own (ref-starts γ-starts c2-starts) (sliceVal (b-starts, o-starts) (length starts) ∷ [])) ∷ ‵ (MutSlice (named 6) κ-groups usize .own (ref-groups γ-groups c2-groups) (sliceVal (b-groups, o-groups) (length groups) ∷ [])) ∷ ‵ (MutSlice (named 7) κ-tasks usize .own (ref-tasks γ-tasks c2-tasks) (sliceVal (b-tasks, o-tasks) (length tasks) ∷ [])) ∷ ‵ (MutSlice (named 8) κ-top usize .own (ref-top γ-top c2-top) (sliceVal (b-top, o-top) (length top) ∷ [])) ∷ ‵ (MutSlice (named 9) κ-words usize .own (ref-words γ-words c2-words) (sliceVal (b-words, o-words) (length words) ∷ [])) ∷ ‵ (MutSlice (named 10) κ-rows usize .own (ref-rows γ-rows c2-rows) (sliceVal (b-rows, o-rows) (length rows) ∷ [])) ∷ ‵ (flft κ-input-starts q-input-starts) ∷ ‵ (flft κ-input-rows q-input-rows) ∷ ‵ (flft κ-input-values q-input-values) ∷ ‵ (flft κ-permutation q-permutation) ∷ ‵ (flft κ-firsts q-firsts) ∷ ‵ (flft κ-starts q-starts) ∷ ‵ (flft κ-groups q-groups) ∷ ‵ (flft κ-tasks q-tasks) ∷ ‵ (flft κ-top q-top) ∷ ‵ (flft κ-words q-words) ∷ ‵ (flft κ-rows q-rows) ∷ ‵ (froom ty0 l0 0) ∷ ‵ (fat fullShare ty1 l1 0 (vint w64 n)) ∷ ‵ (fat fullShare ty2 l2 0 s-input-starts) ∷ ‵ (fat fullShare ty3 l3 0 s-input-rows) ∷ ‵ (fat fullShare ty4 l4 0 s-input-values) ∷ ‵ (fat fullShare ty5 l5 0 s-permutation) ∷ ‵ (fat fullShare ty6 l6 0 s-firsts) ∷ ‵ (fat fullShare ty7 l7 0 s-starts) ∷ ‵ (fat fullShare ty8 l8 0 s-groups) ∷ ‵ (fat fullShare ty9 l9 0 s-tasks) ∷ ‵ (fat fullShare ty10 l10 0 s-top) ∷ ‵ (fat fullShare ty11 l11 0 s-words) ∷ ‵ (fat fullShare ty12 l12 0 s-rows) ∷ ‵ (fat fullShare ty13 l13 0 r1) ∷ ‵ (Lies T-Update.the-row 65536 l14 0 c2-updates) ∷ ‵ (fat fullShare ty15 l15 0 r2) ∷ ‵ (froom ty16 l16 0) ∷ ‵ (froom ty17 l17 0) ∷ ‵ (froom ty38 l38 0) ∷ raw (Packed 𝓤 H A spare2) ∷ raw (Packed 𝓤 H A spare4) ∷ raw (Packed 𝓤 H A spare5) ∷ raw (Packed 𝓤 H A dying) ∷ []) (runs C Λ En body.t-22 (atRet En Post))
+      after2 : (u1 : Update) (r1 : Val) (is1 : Is T-Update.the-row u1 (r1 ∷ [])) (d1 : u1 ≡ noUpdate) (updates : List Update) (made-updates : updates ≡ replicate 65536 u1) (size-updates : length updates ≡ 65536) (u2 : Outcome) (r2 : Val) (is2 : Is T-Outcome.the-row u2 (r2 ∷ [])) (c2-permutation : List ℕ) (c2-firsts : List ℕ) (c2-starts : List ℕ) (c2-groups : List ℕ) (c2-tasks : List ℕ) (c2-top : List ℕ) (c2-words : List ℕ) (c2-rows : List ℕ) (c2-updates : List Update) (d2 : Analyses (matrix n (input-starts) (input-rows) (input-values)) 18446744073709551615 (record { permutation = length (permutation); firsts = length (firsts); starts = length (starts); groups = length (groups); tasks = length (tasks); top = length (top); words = length (words); floats = 0; rows = length (rows); updates = length (updates); values = 0 }) (record { returned = u2; areas = record { permutation = c2-permutation; firsts = c2-firsts; starts = c2-starts; groups = c2-groups; tasks = c2-tasks; top = c2-top; words = c2-words; floats = []; rows = c2-rows; updates = c2-updates; values = [] } })) (same2-permutation : length c2-permutation ≡ length permutation) (same2-firsts : length c2-firsts ≡ length firsts) (same2-starts : length c2-starts ≡ length starts) (same2-groups : length c2-groups ≡ length groups) (same2-tasks : length c2-tasks ≡ length tasks) (same2-top : length c2-top ≡ length top) (same2-words : length c2-words ≡ length words) (same2-rows : length c2-rows ≡ length rows) (same2-updates : length c2-updates ≡ length updates) → Sq W (‵ (ShrSlice (named 0) κ-input-starts usize .own (ref-input-starts γ-input-starts input-starts) (sliceVal (b-input-starts, o-input-starts) (length input-starts) ∷ [])) ∷ ‵ (ShrSlice (named 1) κ-input-rows usize .own (ref-input-rows γ-input-rows input-rows) (sliceVal (b-input-rows, o-input-rows) (length input-rows) ∷ [])) ∷ ‵ (ShrSlice (named 2) κ-input-values f64 .own (ref-input-values γ-input-values input-values) (sliceVal (b-input-values, o-input-values) (length input-values) ∷ [])) ∷ ‵ (MutSlice (named 3) κ-permutation usize .own (ref-permutation γ-permutation c2-permutation) (sliceVal (b-permutation, o-permutation) (length permutation) ∷ [])) ∷ ‵ (MutSlice (named 4) κ-firsts usize .own (ref-firsts γ-firsts c2-firsts) (sliceVal (b-firsts, o-firsts) (length firsts) ∷ [])) ∷ ‵ (MutSlice (named 5) κ-starts usize .own (ref-starts γ-starts c2-starts) (sliceVal (b-starts, o-starts) (length starts) ∷ [])) ∷ ‵ (MutSlice (named 6) κ-groups usize .own (ref-groups γ-groups c2-groups) (sliceVal (b-groups, o-groups) (length groups) ∷ [])) ∷ ‵ (MutSlice (named 7) κ-tasks usize .own (ref-tasks γ-tasks c2-tasks) (sliceVal (b-tasks, o-tasks) (length tasks) ∷ [])) ∷ ‵ (MutSlice (named 8) κ-top usize .own (ref-top γ-top c2-top) (sliceVal (b-top, o-top) (length top) ∷ [])) ∷ ‵ (MutSlice (named 9) κ-words usize .own (ref-words γ-words c2-words) (sliceVal (b-words, o-words) (length words) ∷ [])) ∷ ‵ (MutSlice (named 10) κ-rows usize .own (ref-rows γ-rows c2-rows) (sliceVal (b-rows, o-rows) (length rows) ∷ [])) ∷ ‵ (flft κ-input-starts q-input-starts) ∷ ‵ (flft κ-input-rows q-input-rows) ∷ ‵ (flft κ-input-values q-input-values) ∷ ‵ (flft κ-permutation q-permutation) ∷ ‵ (flft κ-firsts q-firsts) ∷ ‵ (flft κ-starts q-starts) ∷ ‵ (flft κ-groups q-groups) ∷ ‵ (flft κ-tasks q-tasks) ∷ ‵ (flft κ-top q-top) ∷ ‵ (flft κ-words q-words) ∷ ‵ (flft κ-rows q-rows) ∷ ‵ (froom ty0 l0 0) ∷ ‵ (fat fullShare ty1 l1 0 (vint w64 n)) ∷ ‵ (fat fullShare ty2 l2 0 s-input-starts) ∷ ‵ (fat fullShare ty3 l3 0 s-input-rows) ∷ ‵ (fat fullShare ty4 l4 0 s-input-values) ∷ ‵ (fat fullShare ty5 l5 0 s-permutation) ∷ ‵ (fat fullShare ty6 l6 0 s-firsts) ∷ ‵ (fat fullShare ty7 l7 0 s-starts) ∷ ‵ (fat fullShare ty8 l8 0 s-groups) ∷ ‵ (fat fullShare ty9 l9 0 s-tasks) ∷ ‵ (fat fullShare ty10 l10 0 s-top) ∷ ‵ (fat fullShare ty11 l11 0 s-words) ∷ ‵ (fat fullShare ty12 l12 0 s-rows) ∷ ‵ (fat fullShare ty13 l13 0 r1) ∷ ‵ (Lies T-Update.the-row 65536 l14 0 c2-updates) ∷ ‵ (fat fullShare ty15 l15 0 r2) ∷ ‵ (froom ty16 l16 0) ∷ ‵ (froom ty17 l17 0) ∷ ‵ (froom ty38 l38 0) ∷ raw (Packed 𝓤 H A spare2) ∷ raw (Packed 𝓤 H A spare4) ∷ raw (Packed 𝓤 H A spare5) ∷ raw (Packed 𝓤 H A dying) ∷ []) (runs C Λ En body.t-22 (atRet En Post))
       after2 u1 r1 is1 d1 updates made-updates size-updates u2 r2 is2 c2-permutation c2-firsts c2-starts c2-groups c2-tasks c2-top c2-words c2-rows c2-updates d2 same2-permutation same2-firsts same2-starts same2-groups same2-tasks same2-top same2-words same2-rows same2-updates =
           w-move ! (0 ∷ 1 ∷ 2 ∷ 3 ∷ 4 ∷ 5 ∷ 6 ∷ 7 ∷ 8 ∷ 9 ∷ 10 ∷ 11 ∷ 12 ∷ 13 ∷ 14 ∷ 15 ∷ 16 ∷ 17 ∷ 18 ∷ 19 ∷ 20 ∷ 21 ∷ 22 ∷ 23 ∷ 24 ∷ 25 ∷ 26 ∷ 27 ∷ 28 ∷ 29 ∷ 30 ∷ 31 ∷ 32 ∷ 33 ∷ 34 ∷ 35 ∷ 36 ∷ 39 ∷ 40 ∷ 41 ∷ 42 ∷ 43 ∷ 44 ∷ []) $ w-pack ! (‵ (ShrSlice (named 0) κ-input-starts usize .own (ref-input-starts γ-input-starts input-starts) (sliceVal (b-input-starts, o-input-starts) (length input-starts) ∷ [])) ∷ ‵ (ShrSlice (named 1) κ-input-rows usize .own (ref-input-rows γ-input-rows input-rows) (sliceVal (b-input-rows, o-input-rows) (length input-rows) ∷ [])) ∷ ‵ (ShrSlice (named 2) κ-input-values f64 .own (ref-input-values γ-input-values input-values) (sliceVal (b-input-values, o-input-values) (length input-values) ∷ [])) ∷ ‵ (MutSlice (named 3) κ-permutation usize .own (ref-permutation γ-permutation c2-permutation) (sliceVal (b-permutation, o-permutation) (length permutation) ∷ [])) ∷ ‵ (MutSlice (named 4) κ-firsts usize .own (ref-firsts γ-firsts c2-firsts) (sliceVal (b-firsts, o-firsts) (length firsts) ∷ [])) ∷ ‵ (MutSlice (named 5) κ-starts usize .own (ref-starts γ-starts c2-starts) (sliceVal (b-starts, o-starts) (length starts) ∷ [])) ∷ ‵ (MutSlice (named 6) κ-groups usize .own (ref-groups γ-groups c2-groups) (sliceVal (b-groups, o-groups) (length groups) ∷ [])) ∷ ‵ (MutSlice (named 7) κ-tasks usize .own (ref-tasks γ-tasks c2-tasks) (sliceVal (b-tasks, o-tasks) (length tasks) ∷ [])) ∷ ‵ (MutSlice (named 8) κ-top usize .own (ref-top γ-top c2-top) (sliceVal (b-top, o-top) (length top) ∷ [])) ∷ ‵ (MutSlice (named 9) κ-words usize .own (ref-words γ-words c2-words) (sliceVal (b-words, o-words) (length words) ∷ [])) ∷ ‵ (MutSlice (named 10) κ-rows usize .own (ref-rows γ-rows c2-rows) (sliceVal (b-rows, o-rows) (length rows) ∷ [])) ∷ ‵ (flft κ-input-starts q-input-starts) ∷ ‵ (flft κ-input-rows q-input-rows) ∷ ‵ (flft κ-input-values q-input-values) ∷ ‵ (flft κ-permutation q-permutation) ∷ ‵ (flft κ-firsts q-firsts) ∷ ‵ (flft κ-starts q-starts) ∷ ‵ (flft κ-groups q-groups) ∷ ‵ (flft κ-tasks q-tasks) ∷ ‵ (flft κ-top q-top) ∷ ‵ (flft κ-words q-words) ∷ ‵ (flft κ-rows q-rows) ∷ ‵ (froom ty0 l0 0) ∷ ‵ (fat fullShare ty1 l1 0 (vint w64 n)) ∷ ‵ (fat fullShare ty2 l2 0 s-input-starts) ∷ ‵ (fat fullShare ty3 l3 0 s-input-rows) ∷ ‵ (fat fullShare ty4 l4 0 s-input-values) ∷ ‵ (fat fullShare ty5 l5 0 s-permutation) ∷ ‵ (fat fullShare ty6 l6 0 s-firsts) ∷ ‵ (fat fullShare ty7 l7 0 s-starts) ∷ ‵ (fat fullShare ty8 l8 0 s-groups) ∷ ‵ (fat fullShare ty9 l9 0 s-tasks) ∷ ‵ (fat fullShare ty10 l10 0 s-top) ∷ ‵ (fat fullShare ty11 l11 0 s-words) ∷ ‵ (fat fullShare ty12 l12 0 s-rows) ∷ ‵ (fat fullShare ty13 l13 0 r1) ∷ ‵ (Lies T-Update.the-row 65536 l14 0 c2-updates) ∷ ‵ (froom ty17 l17 0) ∷ ‵ (froom ty38 l38 0) ∷ raw (Packed 𝓤 H A spare2) ∷ raw (Packed 𝓤 H A spare4) ∷ raw (Packed 𝓤 H A spare5) ∷ raw (Packed 𝓤 H A dying) ∷ []) $
           w-nothing ! $ w-owned ! usize (Is usize) (uint-makes 𝓤 H A W w64) 65536 _ ((refl, lit< tt)) $ w-fjoin ! $ w-owned ! T-Outcome.the-row (Is T-Outcome.the-row) (LL.makes T-Outcome.the-type L-Outcome.the-plain 𝓤 H A) u2 _ is2 $ w-fjoin ! $
@@ -528,7 +526,7 @@ module _ {M : Type 1} (𝓤 : URA M) (H : Heap 𝓤) (A : Atoms 𝓤) (W : Given
           use2 W (raw (C-analyse 𝓤 H A mem run .pre (((κ-input-starts, (κ-input-rows, (κ-input-values, (ν2-5 ∷ [], (ν2-6 ∷ [], (ν2-7 ∷ [], (ν2-8 ∷ [], (ν2-9 ∷ [], (ν2-10 ∷ [], (ν2-11 ∷ [], (ν2-12 ∷ [], (ν2-13 ∷ [], tt)))))))))))), (q-input-starts, (q-input-rows, (q-input-values, (fullShare, (fullShare, (fullShare, (fullShare, (fullShare, (fullShare, (fullShare, (fullShare, (fullShare, tt)))))))))))), tt, (n, (ref-input-starts γ-input-starts input-starts, (ref-input-rows γ-input-rows input-rows, (ref-input-values γ-input-values input-values, (18446744073709551615, (ref-permutation δ2-5 permutation, (ref-firsts δ2-6 firsts, (ref-starts δ2-7 starts, (ref-groups δ2-8 groups, (ref-tasks δ2-9 tasks, (ref-top δ2-10 top, (ref-words δ2-11 words, (ref-rows δ2-12 rows, (ref-updates l14 δ2-13 updates, tt)))))))))))))), (vint w64 n ∷ [], (s-input-starts ∷ [], (s-input-rows ∷ [], (s-input-values ∷ [], (vint w64 18446744073709551615 ∷ [], (s-permutation ∷ [], (s-firsts ∷ [], (s-starts ∷ [], (s-groups ∷ [], (s-tasks ∷ [], (s-top ∷ [], (s-words ∷ [], (s-rows ∷ [], (sliceVal (l14, 0) (length updates) ∷ [], tt))))))))))))))), tt))) (asked2 u1 r1 is1 d1 updates made-updates size-updates l14 ν2-5 δ2-5 ν2-6 δ2-6 ν2-7 δ2-7 ν2-8 δ2-8 ν2-9 δ2-9 ν2-10 δ2-10 ν2-11 δ2-11 ν2-12 δ2-12 ν2-13 δ2-13) $
           w-calls-at ! fm (C-analyse 𝓤 H A mem run) known-analyse (((κ-input-starts, (κ-input-rows, (κ-input-values, (ν2-5 ∷ [], (ν2-6 ∷ [], (ν2-7 ∷ [], (ν2-8 ∷ [], (ν2-9 ∷ [], (ν2-10 ∷ [], (ν2-11 ∷ [], (ν2-12 ∷ [], (ν2-13 ∷ [], tt)))))))))))), (q-input-starts, (q-input-rows, (q-input-values, (fullShare, (fullShare, (fullShare, (fullShare, (fullShare, (fullShare, (fullShare, (fullShare, (fullShare, tt)))))))))))), tt, (n, (ref-input-starts γ-input-starts input-starts, (ref-input-rows γ-input-rows input-rows, (ref-input-values γ-input-values input-values, (18446744073709551615, (ref-permutation δ2-5 permutation, (ref-firsts δ2-6 firsts, (ref-starts δ2-7 starts, (ref-groups δ2-8 groups, (ref-tasks δ2-9 tasks, (ref-top δ2-10 top, (ref-words δ2-11 words, (ref-rows δ2-12 rows, (ref-updates l14 δ2-13 updates, tt)))))))))))))), (vint w64 n ∷ [], (s-input-starts ∷ [], (s-input-rows ∷ [], (s-input-values ∷ [], (vint w64 18446744073709551615 ∷ [], (s-permutation ∷ [], (s-firsts ∷ [], (s-starts ∷ [], (s-groups ∷ [], (s-tasks ∷ [], (s-top ∷ [], (s-words ∷ [], (s-rows ∷ [], (sliceVal (l14, 0) (length updates) ∷ [], tt))))))))))))))), tt) (w-and-then ! (w-load ! (w-from ! (w-stop !)) (w-look ! 33 refl)) (w-and-then ! (w-load ! (w-from ! (w-stop !)) (w-look ! 34 refl)) (w-and-then ! (w-load ! (w-from ! (w-stop !)) (w-look ! 35 refl)) (w-and-then ! (w-load ! (w-from ! (w-stop !)) (w-look ! 36 refl)) (w-and-then ! (w-neg-lit ! tt) (w-and-then ! (w-load ! (w-from ! (w-stop !)) (w-look ! 15 refl)) (w-and-then ! (w-load ! (w-from ! (w-stop !)) (w-look ! 17 refl)) (w-and-then ! (w-load ! (w-from ! (w-stop !)) (w-look ! 19 refl)) (w-and-then ! (w-load ! (w-from ! (w-stop !)) (w-look ! 21 refl)) (w-and-then ! (w-load ! (w-from ! (w-stop !)) (w-look ! 23 refl)) (w-and-then ! (w-load ! (w-from ! (w-stop !)) (w-look ! 25 refl)) (w-and-then ! (w-load ! (w-from ! (w-stop !)) (w-look ! 27 refl)) (w-and-then ! (w-load ! (w-from ! (w-stop !)) (w-look ! 29 refl)) (w-and-then ! (w-load ! (w-from ! (w-stop !)) (w-look ! 31 refl)) (w-no-more !))))))))))))))) (λ r2.
           use1 W (later (some (λ (u′ : Outcome). ((‵ (flft (κ-input-starts) q-input-starts) ⊛ ‵ (flft (κ-input-rows) q-input-rows) ⊛ ‵ (flft (κ-input-values) q-input-values) ⊛ ‵ (flft (ν2-5 ∷ []) fullShare) ⊛ ‵ (flft (ν2-6 ∷ []) fullShare) ⊛ ‵ (flft (ν2-7 ∷ []) fullShare) ⊛ ‵ (flft (ν2-8 ∷ []) fullShare) ⊛ ‵ (flft (ν2-9 ∷ []) fullShare) ⊛ ‵ (flft (ν2-10 ∷ []) fullShare) ⊛ ‵ (flft (ν2-11 ∷ []) fullShare) ⊛ ‵ (flft (ν2-12 ∷ []) fullShare) ⊛ ‵ (flft (ν2-13 ∷ []) fullShare) ⊛ ‵ ftrue) ⊛ ‵ (T-Outcome.the-row .own u′ (r2 ∷ []))) ⊛ raw (ensured 𝓤 H A f-analyse.ended (f-analyse.clauses 𝓤 H A mem run) (κ-input-starts, (κ-input-rows, (κ-input-values, (ν2-5 ∷ [], (ν2-6 ∷ [], (ν2-7 ∷ [], (ν2-8 ∷ [], (ν2-9 ∷ [], (ν2-10 ∷ [], (ν2-11 ∷ [], (ν2-12 ∷ [], (ν2-13 ∷ [], tt)))))))))))) (n, (ref-input-starts γ-input-starts input-starts, (ref-input-rows γ-input-rows input-rows, (ref-input-values γ-input-values input-values, (18446744073709551615, (ref-permutation δ2-5 permutation, (ref-firsts δ2-6 firsts, (ref-starts δ2-7 starts, (ref-groups δ2-8 groups, (ref-tasks δ2-9 tasks, (ref-top δ2-10 top, (ref-words δ2-11 words, (ref-rows δ2-12 rows, (ref-updates l14 δ2-13 updates, tt)))))))))))))) tt u′)))) (id⊢ 𝓤 _) $ w-await ! tt $ w-pick ! (λ u2.
-          w-split ! $ w-move ! (1 ∷ []) $ use1 W (some (λ (zs2 : Unit {0} × (Unit {0} × (Unit {0} × (Unit {0} × (Unit {0} × (List ℕ × (List ℕ × (List ℕ × (List ℕ × (List ℕ × (List ℕ × (List ℕ × (List ℕ × (List Update × Unit {0})))))))))))))). ‵ (lasts f-analyse.ended (κ-input-starts, (κ-input-rows, (κ-input-values, (ν2-5 ∷ [], (ν2-6 ∷ [], (ν2-7 ∷ [], (ν2-8 ∷ [], (ν2-9 ∷ [], (ν2-10 ∷ [], (ν2-11 ∷ [], (ν2-12 ∷ [], (ν2-13 ∷ [], tt)))))))))))) (n, (ref-input-starts γ-input-starts input-starts, (ref-input-rows γ-input-rows input-rows, (ref-input-values γ-input-values input-values, (18446744073709551615, (ref-permutation δ2-5 permutation, (ref-firsts δ2-6 firsts, (ref-starts δ2-7 starts, (ref-groups δ2-8 groups, (ref-tasks δ2-9 tasks, (ref-top δ2-10 top, (ref-words δ2-11 words, (ref-rows δ2-12 rows, (ref-updates l14 δ2-13 updates, tt)))))))))))))) zs2) ⊛ raw (fact 𝓤 (Settles (analyse (matrix n (input-starts) (input-rows) (input-values)) 18446744073709551615 (lentStructure (length (permutation)) (length (firsts)) (length (starts)) (length (groups)) (length (tasks)) (length (top)) (length (words)) (length (rows)) (length (updates)))) u2 ((zs2 .1 .1 .1 .1 .1 .0)) ((zs2 .1 .1 .1 .1 .1 .1 .0)) ((zs2 .1 .1 .1 .1 .1 .1 .1 .0)) ((zs2 .1 .1 .1 .1 .1 .1 .1 .1 .0)) ((zs2 .1 .1 .1 .1 .1 .1 .1 .1 .1 .0)) ((zs2 .1 .1 .1 .1 .1 .1 .1 .1 .1 .1 .0)) ((zs2 .1 .1 .1 .1 .1 .1 .1 .1 .1 .1 .1 .0)) ((zs2 .1 .1 .1 .1 .1 .1 .1 .1 .1 .1 .1 .1 .0)) ((zs2 .1 .1 .1 .1 .1 .1 .1 .1 .1 .1 .1 .1 .1 .0)))))) (id⊢ 𝓤 _) $ w-pick ! (λ zs2. w-split ! $ w-move ! (1 ∷ []) $ w-heard ! (Settles (analyse (matrix n (input-starts) (input-rows) (input-values)) 18446744073709551615 (lentStructure (length (permutation)) (length (firsts)) (length (starts)) (length (groups)) (length (tasks)) (length (top)) (length (words)) (length (rows)) (length (updates)))) u2 ((zs2 .1 .1 .1 .1 .1 .0)) ((zs2 .1 .1 .1 .1 .1 .1 .0)) ((zs2 .1 .1 .1 .1 .1 .1 .1 .0)) ((zs2 .1 .1 .1 .1 .1 .1 .1 .1 .0)) ((zs2 .1 .1 .1 .1 .1 .1 .1 .1 .1 .0)) ((zs2 .1 .1 .1 .1 .1 .1 .1 .1 .1 .1 .0)) ((zs2 .1 .1 .1 .1 .1 .1 .1 .1 .1 .1 .1 .0)) ((zs2 .1 .1 .1 .1 .1 .1 .1 .1 .1 .1 .1 .1 .0)) ((zs2 .1 .1 .1 .1 .1 .1 .1 .1 .1 .1 .1 .1 .1 .0))) (λ d2.
+          w-split ! $ w-move ! (1 ∷ []) $ use1 W (some (λ (zs2 : Unit {0} × (Unit {0} × (Unit {0} × (Unit {0} × (Unit {0} × (List ℕ × (List ℕ × (List ℕ × (List ℕ × (List ℕ × (List ℕ × (List ℕ × (List ℕ × (List Update × Unit {0})))))))))))))). ‵ (lasts f-analyse.ended (κ-input-starts, (κ-input-rows, (κ-input-values, (ν2-5 ∷ [], (ν2-6 ∷ [], (ν2-7 ∷ [], (ν2-8 ∷ [], (ν2-9 ∷ [], (ν2-10 ∷ [], (ν2-11 ∷ [], (ν2-12 ∷ [], (ν2-13 ∷ [], tt)))))))))))) (n, (ref-input-starts γ-input-starts input-starts, (ref-input-rows γ-input-rows input-rows, (ref-input-values γ-input-values input-values, (18446744073709551615, (ref-permutation δ2-5 permutation, (ref-firsts δ2-6 firsts, (ref-starts δ2-7 starts, (ref-groups δ2-8 groups, (ref-tasks δ2-9 tasks, (ref-top δ2-10 top, (ref-words δ2-11 words, (ref-rows δ2-12 rows, (ref-updates l14 δ2-13 updates, tt)))))))))))))) zs2) ⊛ raw (fact 𝓤 (Analyses (matrix n (input-starts) (input-rows) (input-values)) 18446744073709551615 (record { permutation = length (permutation); firsts = length (firsts); starts = length (starts); groups = length (groups); tasks = length (tasks); top = length (top); words = length (words); floats = 0; rows = length (rows); updates = length (updates); values = 0 }) (record { returned = u2; areas = record { permutation = (zs2 .1 .1 .1 .1 .1 .0); firsts = (zs2 .1 .1 .1 .1 .1 .1 .0); starts = (zs2 .1 .1 .1 .1 .1 .1 .1 .0); groups = (zs2 .1 .1 .1 .1 .1 .1 .1 .1 .0); tasks = (zs2 .1 .1 .1 .1 .1 .1 .1 .1 .1 .0); top = (zs2 .1 .1 .1 .1 .1 .1 .1 .1 .1 .1 .0); words = (zs2 .1 .1 .1 .1 .1 .1 .1 .1 .1 .1 .1 .0); floats = []; rows = (zs2 .1 .1 .1 .1 .1 .1 .1 .1 .1 .1 .1 .1 .0); updates = (zs2 .1 .1 .1 .1 .1 .1 .1 .1 .1 .1 .1 .1 .1 .0); values = [] } }))))) (id⊢ 𝓤 _) $ w-pick ! (λ zs2. w-split ! $ w-move ! (1 ∷ []) $ w-heard ! (Analyses (matrix n (input-starts) (input-rows) (input-values)) 18446744073709551615 (record { permutation = length (permutation); firsts = length (firsts); starts = length (starts); groups = length (groups); tasks = length (tasks); top = length (top); words = length (words); floats = 0; rows = length (rows); updates = length (updates); values = 0 }) (record { returned = u2; areas = record { permutation = (zs2 .1 .1 .1 .1 .1 .0); firsts = (zs2 .1 .1 .1 .1 .1 .1 .0); starts = (zs2 .1 .1 .1 .1 .1 .1 .1 .0); groups = (zs2 .1 .1 .1 .1 .1 .1 .1 .1 .0); tasks = (zs2 .1 .1 .1 .1 .1 .1 .1 .1 .1 .0); top = (zs2 .1 .1 .1 .1 .1 .1 .1 .1 .1 .1 .0); words = (zs2 .1 .1 .1 .1 .1 .1 .1 .1 .1 .1 .1 .0); floats = []; rows = (zs2 .1 .1 .1 .1 .1 .1 .1 .1 .1 .1 .1 .1 .0); updates = (zs2 .1 .1 .1 .1 .1 .1 .1 .1 .1 .1 .1 .1 .1 .0); values = [] } })) (λ d2.
           w-past ! $ w-past ! $ w-past ! $ w-past ! $ w-past ! $ w-last ! (λ same2-permutation. w-move ! (1 ∷ []) $ w-last ! (λ same2-firsts. w-move ! (1 ∷ []) $ w-last ! (λ same2-starts. w-move ! (1 ∷ []) $ w-last ! (λ same2-groups. w-move ! (1 ∷ []) $ w-last ! (λ same2-tasks. w-move ! (1 ∷ []) $ w-last ! (λ same2-top. w-move ! (1 ∷ []) $ w-last ! (λ same2-words. w-move ! (1 ∷ []) $ w-last ! (λ same2-rows. w-move ! (1 ∷ []) $ w-last ! (λ same2-updates. w-move ! (1 ∷ []) $ w-drop ! $
           w-move ! (9 ∷ []) $ w-split ! $ w-move ! (1 ∷ []) $ w-peeks ! T-Outcome.the-row (Is T-Outcome.the-row) (shows 𝓤 H A T-Outcome.the-row) u2 (r2 ∷ []) (λ is2. w-land ! (w-from ! (w-stop !)) (w-init ! 55 refl (LL.lawful T-Outcome.the-type L-Outcome.the-laws 𝓤 H A W .typed u2 _ is2 .0)) $
           w-drop ! $ w-split ! $ w-move ! (1 ∷ []) $ w-split ! $ w-move ! (1 ∷ []) $ w-split ! $ w-move ! (1 ∷ 21 ∷ 12 ∷ []) $ w-back ! tt usize κ-permutation q-permutation γ-permutation b-permutation o-permutation (named 3) (named 3) permutation (length permutation) refl ν2-5 δ2-5 (zs2 .1 .1 .1 .1 .1 .0) room-permutation same2-permutation $

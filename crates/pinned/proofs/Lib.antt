@@ -1,0 +1,4 @@
+pub mod Analyse
+pub mod Factor
+pub mod Solve
+pub mod Column

@@ -1,0 +1,5 @@
+pub mod Contract
+pub mod Analyse
+pub mod Factor
+pub mod Solve
+pub mod Column
