@@ -40,6 +40,16 @@ pub fn stage(ns: usize, stop: Stop) -> Stage
     Stage::Full
 }
 
+// Whether the run follows the list, which is then tested too.
+fn follows(order: Order) -> bool
+    ensures { λ r. ⌜ r ≡ followed order ⌝ }
+{
+    match order {
+        Order::Plain => false,
+        Order::Listed => true,
+    }
+}
+
 // Supernode j is named: its count is never 0 again, and its parent waits for one less.
 fn name(ns: usize, parents: &[usize], j: usize, left: &mut [usize])
     requires { ⌜ (j < length (now parents)) × (j < length (now left)) × (getD (now parents) j 0 < length (now left)) ⌝ }
@@ -107,20 +117,10 @@ pub fn order_fault(
     if t > ns {
         return Answer::WrongOrder { position: ns };
     }
-    match order {
-        Order::Plain => Answer::Accepted,
-        Order::Listed => list_fault(ns, parents, list, left),
+    if follows(order) {
+        return list_fault(ns, parents, list, left);
     }
-}
-
-// Whether the run follows the list.
-fn follows(order: Order) -> bool
-    ensures { λ r. ⌜ r ≡ followed order ⌝ }
-{
-    match order {
-        Order::Plain => false,
-        Order::Listed => true,
-    }
+    Answer::Accepted
 }
 
 // The first t words become 0, 1, ..
