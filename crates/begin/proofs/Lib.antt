@@ -1,4 +1,3 @@
 pub mod Beginning
 pub mod Handing
-pub mod Naming
 pub mod Ordering

@@ -1,17 +1,13 @@
 // From the input to where the run can start: the structure, number 8, and the run's scratch.
 ghost use mathlib.Core.Path.{_≡_};
-ghost use mathlib.Core.List.{_++_};
 ghost use Prim.Native.Nat.{_+_, _*_, _≤_};
 ghost use lib.ListN.{length, take, drop};
-ghost use Rattle.statement.specs.Lists.{rising};
 ghost use Rattle.statement.specs.Input.{matrix};
-ghost use Rattle.statement.specs.Shape.{Shape, supernodes};
-ghost use Rattle.statement.specs.Calls.{orderOf};
 ghost use Rattle.ready.specs.Known.{Known};
 ghost use Rattle.begin.specs.Begun.{lentAll, Begun, Steps};
 ghost use Rattle.begin.specs.Ordered.{Tested};
-use areas::copy_part;
 use clearing::clear_all;
+use order::names;
 use order::order_fault;
 use order::stop_at;
 use ready::ready;
@@ -21,29 +17,6 @@ use statement::Stop;
 use survey::Findings;
 use survey::refused;
 use survey::survey;
-
-// The first t words become 0, 1, ..
-fn count_up(t: usize, to: &mut [usize])
-    requires { ⌜ t ≤ length (now to) ⌝ }
-    ensures { λ _. ⌜ now (to .exit) ≡ rising 0 t ++ drop t (now (to .entry)) ⌝ }
-{
-    let mut i = 0;
-    while i < t {
-        to[i] = i;
-        i += 1;
-    }
-}
-
-// The first t words become the first t supernodes of the plain order, or of the list.
-fn names(order: Order, list: &[usize], t: usize, to: &mut [usize])
-    requires { ⌜ (t ≤ length (now to)) × (order ≡ Order.Listed → t ≤ length (now list)) ⌝ }
-    ensures { λ _. ⌜ ((S : Shape) → t ≤ supernodes S → now (to .exit) ≡ take t (orderOf S order (now (list .entry))) ++ drop t (now (to .entry))) ⌝ }
-{
-    match order {
-        Order::Plain => count_up(t, to),
-        Order::Listed => copy_part(t, list, to),
-    }
-}
 
 // Number 8, and where it passes what the run reads: the scratch, and from 8n + 1 on the supernodes in the order of the run.
 fn prepare(

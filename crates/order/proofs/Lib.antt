@@ -1,4 +1,5 @@
 pub mod Naming
 pub mod Taking
 pub mod Fault
+pub mod Firsts
 pub mod Shaped

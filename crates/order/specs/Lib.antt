@@ -1,1 +1,2 @@
+pub mod Followed
 pub mod Waiting

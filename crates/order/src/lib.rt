@@ -1,16 +1,19 @@
-// Number 8: the order list and the stop count, by which a factor is partial or full.
+// Number 8: the order list and the stop count, by which a factor is partial or full; and the names along which the run goes.
 ghost use mathlib.Core.Path.{_≡_};
 ghost use mathlib.Core.Bool.{cond};
+ghost use mathlib.Core.List.{_++_};
 ghost use mathlib.Core.Logic.{_≢_};
 ghost use Prim.Native.Nat.{ℕ, suc, _-_, _≤_, _<_};
 ghost use lib.Dec.{ltb};
-ghost use lib.ListN.{length, getD, set};
-ghost use Rattle.statement.specs.Lists.{least};
+ghost use lib.ListN.{length, getD, set, take, drop};
+ghost use Rattle.statement.specs.Lists.{least, rising};
 ghost use Rattle.statement.specs.Shape.{Shape, supernodes};
 ghost use Rattle.statement.specs.Run.{orderFault};
 ghost use Rattle.laws.specs.Answered.{answered};
 ghost use Rattle.statement.specs.Calls.{orderOf, stopOf, wrongPosition};
+ghost use Rattle.order.specs.Followed.{followed};
 ghost use Rattle.order.specs.Waiting.{Above, Of, wrongAt};
+use areas::copy_part;
 use statement::Answer;
 use statement::Order;
 use statement::Stage;
@@ -35,6 +38,16 @@ pub fn stage(ns: usize, stop: Stop) -> Stage
         return Stage::Partial;
     }
     Stage::Full
+}
+
+// Whether the run follows the list, which is then tested too.
+fn follows(order: Order) -> bool
+    ensures { λ r. ⌜ r ≡ followed order ⌝ }
+{
+    match order {
+        Order::Plain => false,
+        Order::Listed => true,
+    }
 }
 
 // Supernode j is named: its count is never 0 again, and its parent waits for one less.
@@ -104,8 +117,32 @@ pub fn order_fault(
     if t > ns {
         return Answer::WrongOrder { position: ns };
     }
-    match order {
-        Order::Plain => Answer::Accepted,
-        Order::Listed => list_fault(ns, parents, list, left),
+    if follows(order) {
+        return list_fault(ns, parents, list, left);
+    }
+    Answer::Accepted
+}
+
+// The first t words become 0, 1, ..
+fn count_up(t: usize, to: &mut [usize])
+    requires { ⌜ t ≤ length (now to) ⌝ }
+    ensures { λ _. ⌜ now (to .exit) ≡ rising 0 t ++ drop t (now (to .entry)) ⌝ }
+{
+    let mut i = 0;
+    while i < t {
+        to[i] = i;
+        i += 1;
+    }
+}
+
+// The first t words become the first t supernodes of the plain order, or of the list.
+pub fn names(order: Order, list: &[usize], t: usize, to: &mut [usize])
+    requires { ⌜ (t ≤ length (now to)) × (order ≡ Order.Listed → t ≤ length (now list)) ⌝ }
+    ensures { λ _. ⌜ ((S : Shape) → t ≤ supernodes S → now (to .exit) ≡ take t (orderOf S order (now (list .entry))) ++ drop t (now (to .entry))) ⌝ }
+{
+    if follows(order) {
+        copy_part(t, list, to);
+    } else {
+        count_up(t, to);
     }
 }

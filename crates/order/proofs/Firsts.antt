@@ -1,5 +1,6 @@
 -- The first supernodes of the order of the run. Assumes nothing.
-use mathlib.Core.Path.{_≡_, sym, ap, _∙_}
+use mathlib.Core.Path.{_≡_, refl, sym, ap, _∙_}
+use mathlib.Core.Bool.{true, false}
 use mathlib.Core.List.{List, _++_}
 use Prim.Native.Nat.{ℕ, _≤_}
 use native.Mathlib.Omega.{arith}
@@ -13,7 +14,20 @@ use Rattle.statement.specs.declared.Order.{Order}
 use Rattle.statement.specs.declared.Order.the-variants.{Plain, Listed}
 use Rattle.laws.proofs.Names.{length-rising}
 use Rattle.areas.proofs.Lists.{is-list}
+use Rattle.laws.proofs.Order.{never}
+use Rattle.order.specs.Followed.{followed}
 use Rattle.order.proofs.Fault.{rising-at}
+
+-- which order it is, by the way that the run goes
+pub is-plain : (o : Order) → followed o ≡ false → o ≡ Plain
+unfolding followed
+is-plain Plain e = refl
+is-plain Listed e = never refl e
+
+pub is-listed : (o : Order) → followed o ≡ true → o ≡ Listed
+unfolding followed
+is-listed Plain e = never e refl
+is-listed Listed e = refl
 
 pub counted : (t : ℕ) → list (λ i. i) t ≡ rising 0 t
 counted t = sym (is-list (rising 0 t) (λ i. i) t (length-rising 0 t) (λ j h. rising-at 0 t j h ∙ zero-add j))

@@ -1,13 +1,13 @@
--- `begin::count_up` meets its contract: the words before i count up. Assumes nothing.
+-- `order::count_up` meets its contract: the words before i count up. Assumes nothing.
 use mathlib.Core.Path.{refl, ap, _∙_}
 use mathlib.Core.List.{_++_}
 use Prim.Native.Nat.{_-_}
 use native.Mathlib.Omega.{arith}
 use lib.ListN.{drop}
 use Rattle.areas.proofs.Front.{Front, front-start, front-more, front-over}
-use Rattle.begin.proofs.Naming.{counted}
-use Rattle.begin.proofs.count_up.Statement.{statement}
-use Rattle.begin.proofs.count_up.Tie as tie
+use Rattle.order.proofs.Firsts.{counted}
+use Rattle.order.proofs.count_up.Statement.{statement}
+use Rattle.order.proofs.count_up.Tie as tie
 
 abbrev Inv-loop : tie.InvT-loop
 Inv-loop t to₀ i₀ to i = Front (λ i. i) t to₀ to i
