@@ -18,7 +18,7 @@ use prog.Wp.{Heap}
 abbrev pub Promise : Ended → Type 1
 Promise T = (κs : Lfts (T .signature .lifetimes)) → Args (T .signature) κs → Res (T .signature) κs → AtExit T κs → Type 0
 
--- the promise as a contract: the caller has nothing to choose and nothing to bring, so that no call need be tested for first
+-- the promise as a contract: a caller has nothing to choose and nothing to bring, so that none need test first; at exit the promise is all that it is told
 abbrev pub asksNothing : {M : Type 1} (𝓤 : URA M) (H : Heap 𝓤) (A : Atoms 𝓤) (T : Ended) → Promise T → Spec 𝓤 (T .signature)
 asksNothing 𝓤 H A T P κs a = record { ghost = Unit {0}; requires = λ g. emp 𝓤; ensures = λ g x. exits 𝓤 H A (T .signature) (T .kept) κs a (λ e. fact 𝓤 (P κs a x e)) }
 
