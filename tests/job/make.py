@@ -19,6 +19,7 @@ CRATE = os.path.join(HERE, '..', '..', 'crates', 'job')
 SEED, N = 20261115, 90
 
 def main():
+    if len(sys.argv) < 2: sys.exit(__doc__)
     # dense: 4,095 of the 4,096 entries that a job may store; the diagonal outweighs its column, so that it is accepted
     r = random.Random(SEED)
     a = remake.dominant(r, N, remake.edges(r, 'dense', N))
