@@ -4,7 +4,7 @@ use mathlib.Core.Logic.{_≢_, _↔_, Iff·rfl, Iff·trans, Iff·and}
 use mathlib.Core.Bool.{Bool, true, false, cond, not}
 use mathlib.Core.List.{List, [], _∷_}
 use mathlib.Core.Option.{Option, none, some}
-use Prim.Native.Nat.{ℕ, suc, _≤_, _<_}
+use Prim.Native.Nat.{ℕ, suc, _*_, _≤_, _<_}
 use native.Mathlib.Omega.{arith}
 use lib.Dec.{T, ltb}
 use lib.ListN.{length}
@@ -18,7 +18,7 @@ use Rattle.statement.specs.Answers.{number, test, orElse}
 use Rattle.laws.specs.Answered.{answered}
 use Rattle.statement.specs.Areas.{Areas, Need, needs, short}
 use Rattle.statement.specs.Calls.{Analysis, analysis, entryA, inputFault, settled, later, structureRoom, analyseFault, analyse, wrongPosition, stateAfter, factorNeeds, factorLater, factorFault, factor}
-use Rattle.statement.specs.Solve.{FactorAreas, shapeIn, solvable, solution, solveFault, settledSolve, solve}
+use Rattle.statement.specs.Solve.{FactorAreas, shapeIn, solvable, sidesLimit, solutions, sidesFault, solveFault, settledSolve, solve}
 use Rattle.statement.specs.Demands.{Names}
 use Rattle.laws.specs.Built.{Sound}
 use Rattle.laws.specs.Given.{First, analyseNumbers, factorNumbers, solveNumbers, WrongAt, BadStart, BadRows, Held, SizesGiven, AnalyseGiven, factored, order, stop, ran, Fails, Housed, Ordered, FactorGiven, Met, scratch, Sided, SolveGiven}
@@ -34,7 +34,7 @@ use Rattle.statement.specs.declared.Order.{Order}
 use Rattle.statement.specs.declared.Stop.{Stop}
 use Rattle.statement.specs.declared.Room.{Room}
 use Rattle.statement.specs.declared.Answer.{Answer}
-use Rattle.statement.specs.declared.Answer.the-variants.{Accepted, OverLimit, WrongLengths, WrongStarts, WrongColumn, ShortArea, OverCap, WrongOrder, WrongPivot, WrongSide, NoFactor, WrongStructure}
+use Rattle.statement.specs.declared.Answer.the-variants.{Accepted, OverLimit, WrongLengths, WrongStarts, WrongColumn, ShortArea, OverCap, WrongOrder, WrongPivot, WrongSide, NoFactor, WrongStructure, ManySides}
 
 -- number 8 as a test
 position-given : (W : ℕ → Type 0) (f : Option ℕ) → ((p : ℕ) → (f ≡ some p) ↔ W p) → (x : Answer) → (wrongPosition f ≡ some x) ↔ ((p : ℕ) × W p × (x ≡ WrongOrder p))
@@ -211,11 +211,11 @@ module _ (M : Matrix) (cap : ℕ) (o : Order) (l : List ℕ) (e : Stop) (r : Roo
       pivot : (i j : Original) → WrongPivot i ≡ WrongPivot j → i ≡ j
       pivot i j e = cc
 
-module _ (R : Record) (fa : FactorAreas) (b : List Float) (words floats : ℕ) where
+module _ (R : Record) (fa : FactorAreas) (k : ℕ) (b : List Float) (words floats : ℕ) where
   abbrev f : Option Answer
-  f = solveFault R fa b words floats
+  f = solveFault R fa k b words floats
 
-  scratch-short : test (ltb words (R .n)) (ShortArea 7 (R .n)) (test (ltb floats (R .n)) (ShortArea 8 (R .n)) none) ≡ short (scratch R fa b words floats)
+  scratch-short : test (ltb words (R .n)) (ShortArea 7 (R .n)) (test (ltb floats (R .n)) (ShortArea 8 (R .n)) none) ≡ short (scratch R fa k b words floats)
   unfolding short
   scratch-short = ap (λ x. test (ltb words (R .n)) (ShortArea 7 (R .n)) x) (same (ltb floats (R .n)) (ShortArea 8 (R .n)) none) ∙ same (ltb words (R .n)) (ShortArea 7 (R .n)) _
     where
@@ -223,29 +223,31 @@ module _ (R : Record) (fa : FactorAreas) (b : List Float) (words floats : ℕ) w
       same true a g = unfold test in refl
       same false a g = unfold test in refl
 
-  unfoldable solving : Stage Unit f (11 ∷ 10 ∷ 5 ∷ []) (Sided R fa b words floats × Met (scratch R fa b words floats))
-  unfolding solveFault
+  unfoldable solving : Stage Unit f (11 ∷ 14 ∷ 10 ∷ 5 ∷ []) (Sided R fa k b words floats × Met (scratch R fa k b words floats))
+  unfolding solveFault sidesFault
   solving =
       testing _ _ (opening (test-answers (not (solvable R fa)) NoFactor (T-false (solvable R fa), λ e. rw e tt) (not-not-reads (solvable R fa) (T-true (solvable R fa), λ e. rw e tt))))
-      (testing _ _ (after (λ _. unequal (length b) (R .n) (WrongSide (length b))))
-      (renamed scratch-short (after (λ _. short-answers (scratch R fa b words floats)))))
+      (testing _ _ (after (λ _. above sidesLimit k ManySides))
+      (testing _ _ (after (λ _. unequal (length b) (R .n * k) (WrongSide (length b))))
+      (renamed scratch-short (after (λ _. short-answers (scratch R fa k b words floats))))))
 
-  solve-is : solve R fa b words floats .answer ≡ answered f
+  solve-is : solve R fa k b words floats .answer ≡ answered f
   unfolding solve settledSolve answered
   solve-is = go f
     where
-      go : (f : Option Answer) → settledSolve f b (solution (R .n) (fa .permutation) (shapeIn R fa) (fa .values) b) words floats .answer ≡ answered f
+      go : (f : Option Answer) → settledSolve f b (solutions (R .n) (fa .permutation) (shapeIn R fa) (fa .values) k b) words floats .answer ≡ answered f
       go none = refl
       go (some a) = refl
 
-  pub solve-given : SolveGiven R fa b words floats
+  pub solve-given : SolveGiven R fa k b words floats
   unfolding has inside solving
   solve-given =
-      let says : (x : Answer) → number x ≢ 0 → (solve R fa b words floats .answer ≡ x) ↔ solving .When x = λ x ne. rw solve-is (reply f solving x ne) in
+      let says : (x : Answer) → number x ≢ 0 → (solve R fa k b words floats .answer ≡ x) ↔ solving .When x = λ x ne. rw solve-is (reply f solving x ne) in
       record {
         noFactor = Iff·trans (says NoFactor (λ e. omega arith)) (λ h. h .0, λ h. (h, refl));
+        manySides = Iff·trans (says ManySides (λ e. omega arith)) (Iff·and Iff·rfl (λ h. h .0, λ h. (h, refl)));
         wrongSide = λ x. Iff·trans (says (WrongSide x) (λ e. omega arith)) (Iff·and Iff·rfl (Iff·and Iff·rfl (λ e. cc, λ e. ap WrongSide e)));
-        shortArea = λ a d. Iff·trans (says (ShortArea a d) (λ e. omega arith)) (Iff·and Iff·rfl (lowest (scratch R fa b words floats) a d));
+        shortArea = λ a d. Iff·trans (says (ShortArea a d) (λ e. omega arith)) (Iff·and Iff·rfl (lowest (scratch R fa k b words floats) a d));
         accepted = rw solve-is (reply-accepted f solving tt);
         others = rw solve-is (others f solving solveNumbers tt);
       }

@@ -1,5 +1,5 @@
 -- Of a job number 5 names area 11 alone, and what factor accepts solve accepts (specs/Jobs). Assumes nothing.
-use mathlib.Core.Path.{_≡_, refl, _∙_}
+use mathlib.Core.Path.{_≡_, refl, sym, ap, _∙_}
 use mathlib.Core.Logic.{⊎-elim}
 use mathlib.Core.List.{[]}
 use mathlib.Core.Option.{none}
@@ -12,7 +12,7 @@ use Rattle.statement.specs.Input.{Matrix, WellFormed, pattern}
 use Rattle.statement.specs.Shape.{supernodes}
 use Rattle.statement.specs.Supernodes.{updates}
 use Rattle.statement.specs.Areas.{needs}
-use Rattle.statement.specs.Calls.{analysis, settled, factorNeeds, factorLater, later, factor}
+use Rattle.statement.specs.Calls.{analysis, recordOf, settled, factorNeeds, factorLater, later, factor}
 use Rattle.statement.specs.Solve.{shapeIn, solution, solveFault, settledSolve, solve}
 use Rattle.statement.specs.Job.{Frames, matrixOf, jobRoom}
 use Rattle.statement.specs.Demands.{Such}
@@ -23,6 +23,7 @@ use Rattle.laws.proofs.Stages.{short-passed}
 use Rattle.laws.proofs.Given.{factor-none, factor-given}
 use Rattle.laws.proofs.Analysed as analysed
 use Rattle.laws.proofs.Solvable.{Held, accepted-solves}
+use Rattle.laws.proofs.Sides.{one-side}
 use Rattle.laws.proofs.Lengths.{fits}
 use Rattle.laws.proofs.JobsRead.{Stands, job-stands}
 use Rattle.laws.proofs.JobsRoom.{triangle, triangle-grows, rows-triangle, updates-triangle}
@@ -98,9 +99,9 @@ module _ (j : Frames) (s : Stands j) where
         rw (factor-none M (j .cap) Plain [] End jobRoom ok, le-ltb N N (le-refl N))
         (unfold settled in record { summary = refl; areas = refl; filled = fits M (j .cap) Plain [] End jobRoom ordered ∙ unfold analysis in refl })
 
-    passes : solveFault (summary j) (areas j) (j .b) (jobRoom .words) (jobRoom .floats) ≡ none
+    passes : solveFault (summary j) (areas j) 1 (j .b) (jobRoom .words) (jobRoom .floats) ≡ none
     unfolding matrixOf jobRoom
-    passes = accepted-solves M (j .cap) jobRoom such (factored j) _ held (j .b) (jobRoom .words) (jobRoom .floats) sided (omega (arith, s .small)) (omega (arith, s .small))
+    passes = accepted-solves M (j .cap) jobRoom such (factored j) _ held 1 (j .b) (jobRoom .words) (jobRoom .floats) (omega arith) (omega (arith, sided)) (omega (arith, s .small)) (omega (arith, s .small))
 
     accepted : solved j .answer ≡ Accepted
     unfolding solve settledSolve
@@ -108,7 +109,7 @@ module _ (j : Frames) (s : Stands j) where
 
     printed : solved j .b ≡ solution (summary j .n) (areas j .permutation) (shapeIn (summary j) (areas j)) (areas j .values) (j .b)
     unfolding solve settledSolve
-    printed = rw passes
+    printed = rw passes (one-side (summary j .n) _ _ _ (j .b) (sided ∙ sym (ap (λ R. R .n) (held .summary) ∙ unfold recordOf matrixOf in refl)))
 
 pub jobs-suffice : JobsSuffice
 jobs-suffice text j e = let h = job-stands text j e in record { eleven = eleven j (h .0); accepted = accepted j (h .0) (h .1); printed = printed j (h .0) (h .1) }

@@ -6,7 +6,7 @@ pub once : NothingLeft
 once = record {
   analyses = λ M cap r. record { kept = refl; only = λ x h. h };
   factors = λ M cap o l e r. record { kept = refl; only = λ x h. h };
-  solves = λ R f b words floats. record { kept = refl; only = λ x h. h };
+  solves = λ R f k b words floats. record { kept = refl; only = λ x h. h };
   views = λ R f q. record { kept = refl; only = λ x h. h };
   works = λ text buffer. record { kept = refl; only = λ x h. h };
 }

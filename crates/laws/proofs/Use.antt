@@ -32,32 +32,32 @@ use Rattle.laws.proofs.Checked.{viewed, columns-end, starts-end, rising
 abbrev pub noFactor : List Float → ℕ → ℕ → Solved
 noFactor b words floats = record { answer = NoFactor; b = b; words = replicate words 0; floats = replicate floats +0 }
 
-pub unsolvable : (R : Record) (f : FactorAreas) (b : List Float) (words floats : ℕ) → solvable R f ≡ false → solve R f b words floats ≡ noFactor b words floats
+pub unsolvable : (R : Record) (f : FactorAreas) (k : ℕ) (b : List Float) (words floats : ℕ) → solvable R f ≡ false → solve R f k b words floats ≡ noFactor b words floats
 unfolding solve solveFault settledSolve test
-unsolvable R f b words floats h = rw h
+unsolvable R f k b words floats h = rw h
 
 -- ---- a record that is not full is refused, whatever the areas hold
 
-module _ (f : FactorAreas) (b : List Float) (words floats : ℕ) where
-  pub unfinished : (R : Record) → isFull (R .state) ≡ false → solve R f b words floats ≡ noFactor b words floats
+module _ (f : FactorAreas) (k : ℕ) (b : List Float) (words floats : ℕ) where
+  pub unfinished : (R : Record) → isFull (R .state) ≡ false → solve R f k b words floats ≡ noFactor b words floats
   unfolding solvable viewable fullRecord
-  unfinished R h = unsolvable R f b words floats (rw h)
+  unfinished R h = unsolvable R f k b words floats (rw h)
 
   -- an empty record; what analyse returns; what factor returns after fewer steps than there are supernodes
-  pub empty-refused : solve emptyRecord f b words floats ≡ noFactor b words floats
+  pub empty-refused : solve emptyRecord f k b words floats ≡ noFactor b words floats
   empty-refused = unfinished emptyRecord refl
 
-  settled-refused : (r : Room) (o : Option Answer) (R : Record) (X : Areas) → isFull (R .state) ≡ false → solve (settled r o R X .returned .«record») f b words floats ≡ noFactor b words floats
+  settled-refused : (r : Room) (o : Option Answer) (R : Record) (X : Areas) → isFull (R .state) ≡ false → solve (settled r o R X .returned .«record») f k b words floats ≡ noFactor b words floats
   unfolding settled
   settled-refused r none R X h = unfinished R h
   settled-refused r (some a) R X h = empty-refused
 
-  pub analysed-refused : (M : Matrix) (cap : ℕ) (r : Room) → solve (analyse M cap r .returned .«record») f b words floats ≡ noFactor b words floats
+  pub analysed-refused : (M : Matrix) (cap : ℕ) (r : Room) → solve (analyse M cap r .returned .«record») f k b words floats ≡ noFactor b words floats
   unfolding analyse recordOf
   analysed-refused M cap r = settled-refused _ _ _ _ refl
 
   pub partial-refused : (M : Matrix) (cap : ℕ) (o : Order) (l : List ℕ) (t : ℕ) (r : Room) → t < supernodes (analysis M .shape)
-      → solve (factor M cap o l (After t) r .returned .«record») f b words floats ≡ noFactor b words floats
+      → solve (factor M cap o l (After t) r .returned .«record») f k b words floats ≡ noFactor b words floats
   unfolding factor recordOf
   partial-refused M cap o l t r h = settled-refused _ _ _ _ (rw (lt-ltb t (supernodes (analysis M .shape)) h))
 
@@ -144,17 +144,17 @@ module _ (R : Record) (f : FactorAreas) (u v : ℕ) (e : f .firsts ≡ replicate
   zeros-solvable = (nothing, accepted)
 
   -- so a record of any columns is refused, whatever the other areas hold
-  pub zeros-refused : (b : List Float) (words floats : ℕ) → 0 < R .n → solve R f b words floats ≡ noFactor b words floats
-  zeros-refused b words floats h = unsolvable R f b words floats (go (solvable R f) refl)
+  pub zeros-refused : (k : ℕ) (b : List Float) (words floats : ℕ) → 0 < R .n → solve R f k b words floats ≡ noFactor b words floats
+  zeros-refused k b words floats h = unsolvable R f k b words floats (go (solvable R f) refl)
     where
       go : (t : Bool) → solvable R f ≡ t → t ≡ false
       go true q = absurd (omega (arith, nothing (rw q tt) .columns))
       go false q = refl
 
 -- the areas as a refused analyse or factor leaves them (Exactly, `analyse-refused`, `factor-refused`)
-pub cleared-refused : (R : Record) (r : Room) (b : List Float) (words floats : ℕ) → 0 < R .n → solve R (factoredIn (cleared r)) b words floats ≡ noFactor b words floats
+pub cleared-refused : (R : Record) (r : Room) (k : ℕ) (b : List Float) (words floats : ℕ) → 0 < R .n → solve R (factoredIn (cleared r)) k b words floats ≡ noFactor b words floats
 unfolding factoredIn cleared
-cleared-refused R r b words floats h = zeros-refused R (factoredIn (cleared r)) (r .firsts) (r .starts) refl refl b words floats h
+cleared-refused R r k b words floats h = zeros-refused R (factoredIn (cleared r)) (r .firsts) (r .starts) refl refl k b words floats h
 
 pub cleared-solvable : (R : Record) (r : Room) → T (solvable R (factoredIn (cleared r))) ↔ Nothing R (factoredIn (cleared r))
 unfolding factoredIn cleared

@@ -1,4 +1,4 @@
--- 01, "Sizes at the edges": the rows marked *, as cases and what 01 says of each. Definitions only.
+-- 01, "Sizes at the edges": the rows marked *, as cases and what 01 says of each, and rows for 02, A2. Definitions only.
 use mathlib.Core.Bool.{Bool, true, false}
 use mathlib.Core.List.{List, [], _∷_, _++_, map}
 use Prim.Native.Nat.{ℕ, zero, suc, _+_, _*_}
@@ -19,13 +19,13 @@ use Rattle.statement.specs.Rules.{tolerance, passes, dot, singly, look, andThen
 use Rattle.statement.specs.Run.{blank, blocked, fateOf, settle, fate, run, ready, firstBad, orderFault}
 use Rattle.statement.specs.Answers.{test, orElse}
 use Rattle.statement.specs.Areas.{needs, short, held, flat}
-use Rattle.statement.specs.Solve.{Solved, factoredIn, shapeIn, fullRecord, permutes, risingColumns, goodSupernode, risingRows, sized, viewable, solvable, rowsIn, startIn, valuesIn, lessBelow, lessAbove, forwardAt, forward, backwardAt, backward, solution, solveFault, settledSolve, solve}
+use Rattle.statement.specs.Solve.{Solved, factoredIn, shapeIn, fullRecord, permutes, risingColumns, goodSupernode, risingRows, sized, viewable, solvable, rowsIn, startIn, valuesIn, lessBelow, lessAbove, forwardAt, forward, backwardAt, backward, solution, sideIn, solutions, sidesFault, solveFault, settledSolve, solve}
 use Rattle.statement.specs.Job.{hexDigit, hexValue, hex, valueFrom, frame, frameOf, noFrames, begun, withStored, withSide, finished, takes, next, atEnd, read, matrixOf, jobRoom, refusal, success, isAccepted, written}
 use Rattle.statement.specs.Job as jobs
 use Rattle.statement.specs.Calls.{Analysis, analyse, analyseFault, structureRoom, inputFault, analysis, entryA, Settled, recordOf, areasOf, cleared, settled, later, factorNeeds, factorLater, orderOf, wrongPosition, stateAfter, factorFault, factor}
 use Rattle.statement.specs.declared.Original.{Original}
 use Rattle.statement.specs.declared.Answer.{Answer}
-use Rattle.statement.specs.declared.Answer.the-variants.{Accepted, OverCap, WrongOrder, WrongPivot}
+use Rattle.statement.specs.declared.Answer.the-variants.{Accepted, OverCap, WrongOrder, WrongPivot, WrongSide, ManySides}
 use Rattle.statement.specs.declared.Record.{Record}
 use Rattle.statement.specs.declared.Stage.the-variants.{Empty, Analysed, Full}
 use Rattle.statement.specs.declared.Order.{Order}
@@ -39,7 +39,7 @@ use Rattle.statement.specs.declared.Room.{Room}
 pub data Case : Type 0 where
   analysing : Matrix → (cap : ℕ) → Case
   factoring : Matrix → (cap : ℕ) → Order → (list : List ℕ) → Stop → Case
-  solving : Matrix → (cap : ℕ) → (b : List Float) → Case
+  solving : Matrix → (cap : ℕ) → (sides : ℕ) → (b : List Float) → Case
   rooting : Float → Case
   weighing : Matrix → (supernode : ℕ) → Case
   running : (input : List ℕ) → Case
@@ -92,7 +92,7 @@ weighedOf M K =
 unfoldable pub resultOf : Case → Result
 unfolding readOf factoredIn solvedOf bitsOf weighedOf
     jobs.job written isAccepted success refusal jobRoom matrixOf read atEnd next takes finished withSide withStored begun noFrames frameOf frame valueFrom hex hexValue hexDigit
-    solve settledSolve solveFault solution backward backwardAt forward forwardAt lessAbove lessBelow valuesIn startIn rowsIn solvable viewable sized risingRows goodSupernode risingColumns permutes fullRecord shapeIn
+    solve settledSolve solveFault sidesFault solutions sideIn solution backward backwardAt forward forwardAt lessAbove lessBelow valuesIn startIn rowsIn solvable viewable sized risingRows goodSupernode risingColumns permutes fullRecord shapeIn
     analyse analyseFault structureRoom inputFault analysis entryA recordOf areasOf cleared settled later factorNeeds factorLater orderOf wrongPosition stateAfter factorFault factor
     needs short held flat test orElse
     blank blocked fateOf settle fate run ready firstBad orderFault
@@ -106,9 +106,9 @@ unfolding readOf factoredIn solvedOf bitsOf weighedOf
     add sub neg mul div lt ofBits toBits round span climb odd units trailingZeros ieee.size
 resultOf (analysing M cap) = readOf (analyse M cap (room M cap))
 resultOf (factoring M cap o l e) = readOf (factor M cap o l e (room M 11))
-resultOf (solving M cap b) =
+resultOf (solving M cap k b) =
     let o : Settled = factor M cap Plain [] End (room M cap) in
-    solvedOf (solve (o .returned .«record») (factoredIn (o .areas)) b (M .n) (M .n))
+    solvedOf (solve (o .returned .«record») (factoredIn (o .areas)) k b (M .n) (M .n))
 resultOf (rooting x) = rooted (toBits binary64 (root x))
 resultOf (weighing M K) = weighedOf M K
 resultOf (running i) = wrote (jobs.job i)
@@ -186,13 +186,26 @@ two = 0x4000_0000_0000_0000
 abbrev four# : ℕ
 four# = 0x4010_0000_0000_0000
 
+abbrev eight : ℕ
+eight = 0x4020_0000_0000_0000
+
+abbrev twelve : ℕ
+twelve = 0x4028_0000_0000_0000
+
+-- 01 has the first solve, 02 (A2) the others: of two right sides, of none, of a buffer of another length, of too many
 unfoldable pub cases : List Case
 cases =
     factoring none′ 0 Plain [] End ∷
     factoring single 1 Plain [] End ∷
     factoring bare 1 Plain [] End ∷
     factoring job 3 Plain [] End ∷
-    solving job 3 (num 8 ∷ num 12 ∷ []) ∷
+    solving job 3 1 (num 8 ∷ num 12 ∷ []) ∷
+    solving job 3 2 (num 8 ∷ num 12 ∷ num 10 ∷ num 9 ∷ []) ∷
+    solving job 3 0 [] ∷
+    solving job 3 2 (num 8 ∷ num 12 ∷ []) ∷
+    solving job 3 65 (num 8 ∷ num 12 ∷ []) ∷
+    solving none′ 0 64 [] ∷
+    solving none′ 0 65 [] ∷
     factoring three 6 Plain [] End ∷
     factoring three 5 Plain [] End ∷
     weighing (fan 2) 5 ∷
@@ -216,6 +229,12 @@ expected =
     refused (WrongPivot (col 0)) 1 ∷
     called Accepted (record { state = Full; n = 2; supernodes = 1; rows = 2; updates = 0; tasks = 1; top = 0; entries = 3; work = 5 }) (0 ∷ 1 ∷ []) (two ∷ one ∷ two ∷ zeros# 8) ∷
     solution# Accepted (one ∷ two ∷ []) ∷
+    solution# Accepted (one ∷ two ∷ two ∷ one ∷ []) ∷
+    solution# Accepted [] ∷
+    solution# (WrongSide 2) (eight ∷ twelve ∷ []) ∷
+    solution# ManySides (eight ∷ twelve ∷ []) ∷
+    solution# Accepted [] ∷
+    solution# ManySides [] ∷
     called Accepted (record { state = Full; n = 3; supernodes = 1; rows = 3; updates = 0; tasks = 1; top = 0; entries = 6; work = 14 }) (0 ∷ 1 ∷ 2 ∷ [])
     (one ∷ one ∷ one ∷ one ∷ 0xBFF0_0000_0000_0000 ∷ one ∷ zeros# 5) ∷
     refused (OverCap 6 5) 3 ∷

@@ -4,7 +4,7 @@ use mathlib.Core.Path.{_≡_}
 use mathlib.Core.Logic.{_⊎_, _≢_, _↔_}
 use mathlib.Core.Bool.{true, false}
 use mathlib.Core.List.{List, [], _∷_}
-use Prim.Native.Nat.{ℕ, suc, _-_, _≤_, _<_}
+use Prim.Native.Nat.{ℕ, suc, _-_, _*_, _≤_, _<_}
 use lib.ListN.{length, getD}
 use lib.Ieee.{Float}
 use Rattle.statement.specs.Lists.{has}
@@ -15,12 +15,12 @@ use Rattle.statement.specs.Run.{State, blocked}
 use Rattle.statement.specs.Answers.{number}
 use Rattle.statement.specs.Areas.{Need, needs}
 use Rattle.statement.specs.Calls.{Analysis, analysis, entryA, later, analyse, factorNeeds, factorLater, orderOf, stopOf, stateAfter, factor}
-use Rattle.statement.specs.Solve.{FactorAreas, solvable, solve}
+use Rattle.statement.specs.Solve.{FactorAreas, solvable, sidesLimit, solve}
 use Rattle.statement.specs.Demands.{Names, Breaks}
 use Rattle.statement.specs.declared.Original.{Original}
 use Rattle.statement.specs.declared.Factored.{Factored}
 use Rattle.statement.specs.declared.Answer.{Answer}
-use Rattle.statement.specs.declared.Answer.the-variants.{Accepted, OverLimit, WrongLengths, WrongStarts, WrongColumn, ShortArea, OverCap, WrongOrder, WrongPivot, WrongSide, NoFactor}
+use Rattle.statement.specs.declared.Answer.the-variants.{Accepted, OverLimit, WrongLengths, WrongStarts, WrongColumn, ShortArea, OverCap, WrongOrder, WrongPivot, WrongSide, NoFactor, ManySides}
 use Rattle.statement.specs.declared.Record.{Record}
 use Rattle.statement.specs.declared.Order.{Order}
 use Rattle.statement.specs.declared.Stop.{Stop}
@@ -127,7 +127,7 @@ abbrev pub factorNumbers : List ℕ
 factorNumbers = 0 ∷ 1 ∷ 2 ∷ 3 ∷ 4 ∷ 5 ∷ 6 ∷ 8 ∷ 9 ∷ []
 
 abbrev pub solveNumbers : List ℕ
-solveNumbers = 0 ∷ 5 ∷ 10 ∷ 11 ∷ []
+solveNumbers = 0 ∷ 5 ∷ 10 ∷ 11 ∷ 14 ∷ []
 
 module _ (M : Matrix) (cap : ℕ) (r : Room) where
   abbrev pub analysed : Answer
@@ -171,20 +171,25 @@ module _ (M : Matrix) (cap : ℕ) (o : Order) (l : List ℕ) (e : Stop) (r : Roo
     pub accepted : (factored ≡ Accepted) ↔ (Ordered × ((c : Factored) → c .0 < M .n → Fails c → ⊥))
     pub others : has (number factored) factorNumbers ≡ true
 
-module _ (R : Record) (f : FactorAreas) (b : List Float) (words floats : ℕ) where
+module _ (R : Record) (f : FactorAreas) (k : ℕ) (b : List Float) (words floats : ℕ) where
   abbrev pub solved : Answer
-  solved = solve R f b words floats .answer
+  solved = solve R f k b words floats .answer
 
   -- n in 7 and n in 8
   abbrev pub scratch : List Need
   scratch = record { area = 7; need = R .n; length = words } ∷ record { area = 8; need = R .n; length = floats } ∷ []
 
+  -- what has passed after number 14, and after number 10
+  abbrev pub Few : Type 0
+  Few = (solvable R f ≡ true) × (k ≤ sidesLimit)
+
   abbrev pub Sided : Type 0
-  Sided = (solvable R f ≡ true) × (length b ≡ R .n)
+  Sided = Few × (length b ≡ R .n * k)
 
   pub record SolveGiven : Type 0 where
     pub noFactor : (solved ≡ NoFactor) ↔ (solvable R f ≡ false)
-    pub wrongSide : (x : ℕ) → (solved ≡ WrongSide x) ↔ ((solvable R f ≡ true) × ((length b ≢ R .n) × (x ≡ length b)))
+    pub manySides : (solved ≡ ManySides) ↔ ((solvable R f ≡ true) × (sidesLimit < k))
+    pub wrongSide : (x : ℕ) → (solved ≡ WrongSide x) ↔ (Few × ((length b ≢ R .n * k) × (x ≡ length b)))
     pub shortArea : (a d : ℕ) → (solved ≡ ShortArea a d) ↔ (Sided × Lowest scratch a d)
     pub accepted : (solved ≡ Accepted) ↔ (Sided × Met scratch)
     pub others : has (number solved) solveNumbers ≡ true

@@ -22,7 +22,7 @@ module _ (j : Frames) where
   areas = factoredIn (factored .areas)
 
   abbrev pub solved : Solved
-  solved = solve summary areas (j .b) (jobRoom .words) (jobRoom .floats)
+  solved = solve summary areas 1 (j .b) (jobRoom .words) (jobRoom .floats)
 
   pub record Suffices : Type 0 where
     -- number 5 can only name area 11

@@ -22,6 +22,6 @@ pub record Once {A : Type 0} (P : A → Type 0) (a : A) : Type 0 where
 pub record NothingLeft : Type 0 where
   pub analyses : (M : Matrix) (cap : ℕ) (r : Room) → Once (Analyses M cap r) (analyse M cap r)
   pub factors : (M : Matrix) (cap : ℕ) (o : Order) (l : List ℕ) (e : Stop) (r : Room) → Once (Factors M cap o l e r) (factor M cap o l e r)
-  pub solves : (R : Record) (f : FactorAreas) (b : List Float) (words floats : ℕ) → Once (Solves R f b words floats) (solve R f b words floats)
+  pub solves : (R : Record) (f : FactorAreas) (k : ℕ) (b : List Float) (words floats : ℕ) → Once (Solves R f k b words floats) (solve R f k b words floats)
   pub views : (R : Record) (f : FactorAreas) (q : Factored) → Once (Views R f q) (view R f q)
   pub works : (text buffer : List ℕ) → Once (Works text buffer) (answerIn (job text) buffer)
