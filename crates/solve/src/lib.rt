@@ -12,7 +12,8 @@ use checks::offset;
 use checks::solvable;
 use checks::viewable;
 use panel::panel_column;
-use solving::solve_one;
+use sides::sides_answer;
+use sides::solve_sides;
 use statement::Answer;
 use statement::Factored;
 use statement::Record;
@@ -27,29 +28,34 @@ fn attempt(
     values: &[f64],
     words: &mut [usize],
     floats: &mut [f64],
+    sides: usize,
     b: &mut [f64],
 ) -> Answer
-    ensures { λ r. ⌜ r ≡ solve «record» (lent (now (permutation .entry)) (now (firsts .entry)) (now (starts .entry)) (now (rows .entry)) (now (values .entry))) (now (b .entry)) (length (now (words .entry))) (length (now (floats .entry))) .answer ⌝ }
-    ensures { λ _. ⌜ now (b .exit) ≡ solve «record» (lent (now (permutation .entry)) (now (firsts .entry)) (now (starts .entry)) (now (rows .entry)) (now (values .entry))) (now (b .entry)) (length (now (words .entry))) (length (now (floats .entry))) .b ⌝ }
+    ensures { λ r. ⌜ r ≡ solve «record» (lent (now (permutation .entry)) (now (firsts .entry)) (now (starts .entry)) (now (rows .entry)) (now (values .entry))) sides (now (b .entry)) (length (now (words .entry))) (length (now (floats .entry))) .answer ⌝ }
+    ensures { λ _. ⌜ now (b .exit) ≡ solve «record» (lent (now (permutation .entry)) (now (firsts .entry)) (now (starts .entry)) (now (rows .entry)) (now (values .entry))) sides (now (b .entry)) (length (now (words .entry))) (length (now (floats .entry))) .b ⌝ }
 {
-    let n = record.n;
     if !solvable(record, permutation, firsts, starts, rows, values, words) {
         return Answer::NoFactor;
     }
-    if b.len() != n {
-        return Answer::WrongSide { length: b.len() };
-    }
-    if words.len() < n {
-        return Answer::ShortArea { area: 7, need: n };
-    }
-    if floats.len() < n {
-        return Answer::ShortArea { area: 8, need: n };
-    }
-    solve_one(record, permutation, firsts, starts, rows, values, floats, b);
-    Answer::Accepted
+    let a = sides_answer(record.n, sides, b.len(), words.len(), floats.len());
+    let Answer::Accepted = a else {
+        return a;
+    };
+    solve_sides(
+        record,
+        permutation,
+        firsts,
+        starts,
+        rows,
+        values,
+        floats,
+        sides,
+        b,
+    );
+    a
 }
 
-// Solve for one right side, in place.
+// Solve for so many right sides, one after another in b, in place.
 pub fn solve(
     record: Record,
     permutation: &[usize],
@@ -59,9 +65,10 @@ pub fn solve(
     values: &[f64],
     words: &mut [usize],
     floats: &mut [f64],
+    sides: usize,
     b: &mut [f64],
 ) -> Answer
-    ensures { λ r. ⌜ Solves «record» (record { permutation = now (permutation .entry); firsts = now (firsts .entry); starts = now (starts .entry); rows = now (rows .entry); values = now (values .entry) }) (now (b .entry)) (length (now (words .entry))) (length (now (floats .entry))) (record { answer = r; b = now (b .exit); words = now (words .exit); floats = now (floats .exit) }) ⌝ }
+    ensures { λ r. ⌜ Solves «record» (record { permutation = now (permutation .entry); firsts = now (firsts .entry); starts = now (starts .entry); rows = now (rows .entry); values = now (values .entry) }) sides (now (b .entry)) (length (now (words .entry))) (length (now (floats .entry))) (record { answer = r; b = now (b .exit); words = now (words .exit); floats = now (floats .exit) }) ⌝ }
 {
     let x = attempt(
         record,
@@ -72,6 +79,7 @@ pub fn solve(
         values,
         words,
         floats,
+        sides,
         b,
     );
     clear_words(words);

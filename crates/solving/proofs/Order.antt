@@ -1,23 +1,18 @@
 -- b into factor order and back, and the four passes together. Assumes nothing.
 use mathlib.Core.Path.{_≡_, refl, sym, ap, _∙_}
-use mathlib.Core.Bool.{true}
 use mathlib.Core.List.{List, append-nil}
 use Prim.Native.Nat.{ℕ, suc, _+_, _<_, _≤_}
 use native.Mathlib.Omega.{arith}
 use native.Mathlib.Decide.{ℕ-discrete}
 use native.Mathlib.Numerals.{add-one}
-use lib.ListN.{length, getD, set, take, length-set}
+use lib.ListN.{length, getD, set, length-set}
 use lib.Seq.{drop-length, getD-set-same, getD-set-other, ext-getD}
 use lib.Ieee.{Float, nan}
 use Rattle.statement.specs.Lists.{list, place}
 use Rattle.statement.specs.Input.{+0}
-use Rattle.statement.specs.Shape.{Shape, supernodes, offset}
-use Rattle.statement.specs.Solve.{FactorAreas, shapeIn, permutes, viewable, solvable, forward, backward, solution}
-use Rattle.statement.specs.declared.Record.{Record}
+use Rattle.statement.specs.Shape.{offset}
+use Rattle.statement.specs.Solve.{forward, backward, solution}
 use Rattle.laws.specs.Lent.{laid}
-use Rattle.laws.proofs.Checked.{cut, ready}
-use Rattle.laws.proofs.Bools.{and-both, T-true}
-use Rattle.laws.proofs.Taken.{true-T}
 use Rattle.laws.proofs.Permuted.{Permuted}
 use Rattle.laws.proofs.Ranks.{list-length, list-at}
 use Rattle.areas.proofs.Front.{Front, front-over}
@@ -83,28 +78,3 @@ module _ (F S R : List ℕ) where
 
   pub solving-at : (q : List ℕ) (v : List Float) (entries m n : ℕ) → m ≡ n → Solving (laid n F S R) q v entries → Solving (laid m F S R) q v entries
   solving-at q v entries m n e h = rw e h
-
--- ---- over the parts that the record's counts cut out
-
-module _ (R : Record) (f : FactorAreas) (m : ℕ) (e : m ≡ R .n) where
-  abbrev part : Shape
-  part = laid m (take (R .supernodes + 1) (f .firsts)) (take (R .supernodes + 1) (f .starts)) (take (R .rows) (f .rows))
-
-  part-is : part ≡ shapeIn R f
-  part-is = ap (λ i. laid i (take (R .supernodes + 1) (f .firsts)) (take (R .supernodes + 1) (f .starts)) (take (R .rows) (f .rows))) e ∙ cut R f
-
-  pub part-solving : solvable R f ≡ true → Solving part (f .permutation) (f .values) (R .entries)
-  part-solving h =
-      let r = ready R f (true-T h) in
-      let v = r .viewed in
-      rw part-is (record {
-        walk = v .walkable;
-        few = omega (arith, v .fitted .columns, v .roomy .small);
-        sized = v .entries ∙ ap (offset (shapeIn R f)) (let z : R .supernodes ≡ supernodes (shapeIn R f) = omega (arith, v .fitted .firsts) in z);
-        room = v .roomy .values;
-        long = omega (arith, v .fitted .columns, v .roomy .permutation);
-        once = ap (λ i. permutes i (f .permutation)) (v .fitted .columns) ∙ T-true _ (and-both (viewable R f) (permutes (R .n) (f .permutation)) (unfold solvable in true-T h) .1);
-      })
-
-  pub part-solved : (b r : List Float) → r ≡ solution m (f .permutation) part (f .values) b → r ≡ solution (R .n) (f .permutation) (shapeIn R f) (f .values) b
-  part-solved b r h = h ∙ ap (λ i. solution i (f .permutation) part (f .values) b) e ∙ ap (λ S. solution (R .n) (f .permutation) S (f .values) b) part-is

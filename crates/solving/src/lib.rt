@@ -208,7 +208,7 @@ fn scatter(permutation: &[usize], x: &[f64], b: &mut [f64])
 }
 
 // b becomes the solution, over lists as long as they should be.
-fn solve_parts(
+pub fn solve_one(
     permutation: &[usize],
     firsts: &[usize],
     starts: &[usize],
@@ -226,34 +226,4 @@ fn solve_parts(
     forward(firsts, starts, rows, values, x);
     backward(firsts, starts, rows, values, entries, x);
     scatter(permutation, &x[..], b);
-}
-
-// b becomes the solution; the first n floats are the room for the unknowns.
-pub fn solve_one(
-    record: Record,
-    permutation: &[usize],
-    firsts: &[usize],
-    starts: &[usize],
-    rows: &[usize],
-    values: &[f64],
-    floats: &mut [f64],
-    b: &mut [f64],
-)
-    requires { ⌜ solvable «record» (lent (now permutation) (now firsts) (now starts) (now rows) (now values)) ≡ true ⌝ }
-    requires { ⌜ («record» .n ≤ length (now floats)) × (length (now b) ≡ «record» .n) ⌝ }
-    ensures { λ _. ⌜ now (b .exit) ≡ solution («record» .n) (now (permutation .entry)) (shapeIn «record» (lent (now (permutation .entry)) (now (firsts .entry)) (now (starts .entry)) (now (rows .entry)) (now (values .entry)))) (now (values .entry)) (now (b .entry)) ⌝ }
-{
-    let n = record.n;
-    let many = record.supernodes + 1;
-    let total = record.rows;
-    solve_parts(
-        permutation,
-        &firsts[..many],
-        &starts[..many],
-        &rows[..total],
-        values,
-        record.entries,
-        &mut floats[..n],
-        b,
-    );
 }

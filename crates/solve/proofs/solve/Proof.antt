@@ -31,7 +31,7 @@ returns c =
     let args′ = c .before .before .before .before .before .before .before .before .before .before .before .before .before .before .before .before .before .before .before .before .before .before .before .before .before .before .args in
     let clear-words′ = c .before .before .before .before .before .before .clear-words in
     let clear-floats′ = c .before .before .clear-floats in
-    settles _ _ _ _ _ _ _ _ _ (attempt′ .ensures) (cleared 0 _ (length (args′ .words .now)) (attempt′ .kept .1 .1 .1 .1 .1 .1 .0) (clear-words′ .ensures)) (cleared +0 _ (length (args′ .floats .now)) (attempt′ .kept .1 .1 .1 .1 .1 .1 .1 .0) (clear-floats′ .ensures))
+    settles _ _ _ _ _ _ _ _ _ _ (attempt′ .ensures) (cleared 0 _ (length (args′ .words .now)) (attempt′ .kept .1 .1 .1 .1 .1 .1 .0) (clear-words′ .ensures)) (cleared +0 _ (length (args′ .floats .now)) (attempt′ .kept .1 .1 .1 .1 .1 .1 .1 .0) (clear-floats′ .ensures))
 
 pub solve-spec : {M : Type 1} → statement M
 solve-spec = tie.close (tie.spec attempt-requires clear-words-requires clear-floats-requires same-length same-length-2 same-length-3 returns)

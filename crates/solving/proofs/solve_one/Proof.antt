@@ -1,65 +1,64 @@
--- `solving::solve_one` meets its contract: over the parts that the record's counts cut out. Assumes nothing.
+-- `solving::solve_one` meets its contract: the four passes. Assumes nothing.
 use mathlib.Core.Path.{sym, _∙_}
 use native.Mathlib.Omega.{arith}
-use lib.Seq.{length-take-le}
 use borrow.Author.Needs.{needs}
-use Rattle.laws.specs.Lent.{lent}
-use Rattle.laws.proofs.Checked.{ready}
-use Rattle.solving.proofs.Order.{part-solving, part-solved}
+use Rattle.laws.proofs.Permuted.{permuted}
+use Rattle.solving.proofs.Order.{solving-at, passes}
 use Rattle.laws.proofs.Taken.{true-T}
 use Rattle.solving.proofs.solve_one.Statement.{statement}
 use Rattle.solving.proofs.solve_one.Tie as tie
 
-add-many : tie.Need-add-many
-add-many c =
-    let pre′ = c .before .before .before .before .before .before .before .before .pre in
-    omega (arith, ready _ _ (true-T (pre′ .0)) .viewed .few, ready _ _ (true-T (pre′ .0)) .viewed .roomy .small)
-
-slice-aggregate-solve-parts : tie.Need-slice-aggregate-solve-parts
-slice-aggregate-solve-parts c =
+gather-requires : tie.Need-gather-requires
+gather-requires c κs =
     let pre′ = c .before .before .before .before .before .before .before .before .before .pre in
-    sym (length-take-le _ _ (omega (arith, ready _ _ (true-T (pre′ .0)) .viewed .few, ready _ _ (true-T (pre′ .0)) .viewed .roomy .firsts)))
+    (pre′ .0 .long, λ a l. omega (arith, pre′ .1, permuted _ _ (pre′ .0 .long) (true-T (pre′ .0 .once)) .low a l))
 
-slice-aggregate-solve-parts-2 : tie.Need-slice-aggregate-solve-parts-2
-slice-aggregate-solve-parts-2 c =
-    let pre′ = c .before .before .before .before .before .before .before .before .before .before .pre in
-    sym (length-take-le _ _ (omega (arith, ready _ _ (true-T (pre′ .0)) .viewed .few, ready _ _ (true-T (pre′ .0)) .viewed .roomy .starts)))
-
-slice-aggregate-solve-parts-3 : tie.Need-slice-aggregate-solve-parts-3
-slice-aggregate-solve-parts-3 c =
-    let pre′ = c .before .before .before .before .before .before .before .before .before .before .before .pre in
-    sym (length-take-le _ _ (ready _ _ (true-T (pre′ .0)) .viewed .roomy .rows))
-
-slice-relend-prefix-solve-parts : tie.Need-slice-relend-prefix-solve-parts
-slice-relend-prefix-solve-parts c =
-    let pre′ = c .before .before .before .before .before .before .before .before .before .before .before .pre in
-    pre′ .1 .0
-
-slice-aggregate-solve-parts-4 : tie.Need-slice-aggregate-solve-parts-4
-slice-aggregate-solve-parts-4 c =
-    let pre′ = c .before .before .before .before .before .before .before .before .before .before .before .before .pre in
-    sym (length-take-le _ _ (pre′ .1 .0))
-
-solve-parts-requires : tie.Need-solve-parts-requires
-solve-parts-requires c κs =
+forward-requires : tie.Need-forward-requires
+forward-requires c κs =
     let args′ = c .before .before .before .before .before .before .before .before .before .before .before .before .before .args in
+    let gather′ = c .before .before .before .gather in
     let pre′ = c .before .before .before .before .before .before .before .before .before .before .before .before .before .pre in
-    let k = length-take-le (args′ .«record» .n) (args′ .floats .now) (pre′ .1 .0) in
-    (part-solving (args′ .«record») (lent (args′ .permutation .now) (args′ .firsts .now) (args′ .starts .now) (args′ .rows .now) (args′ .values .now)) _ k (pre′ .0), pre′ .1 .1 ∙ sym k)
+    let s = solving-at (args′ .firsts .now) (args′ .starts .now) (args′ .rows .now) (args′ .permutation .now) (args′ .values .now) (args′ .entries) _ _ (gather′ .kept .1 .1 .0) (pre′ .0) in
+    (s .walk, omega (arith, s .sized, s .room))
+
+backward-requires : tie.Need-backward-requires
+backward-requires c κs =
+    let args′ = c .before .before .before .before .before .before .before .before .before .before .before .before .before .before .before .before .before .args in
+    let forward′ = c .before .before .before .forward in
+    let gather′ = c .before .before .before .before .before .before .before .gather in
+    let pre′ = c .before .before .before .before .before .before .before .before .before .before .before .before .before .before .before .before .before .pre in
+    let s = solving-at (args′ .firsts .now) (args′ .starts .now) (args′ .rows .now) (args′ .permutation .now) (args′ .values .now) (args′ .entries) _ _ (forward′ .kept .1 .1 .1 .1 .0 ∙ gather′ .kept .1 .1 .0) (pre′ .0) in
+    (s .walk, (s .sized, (s .room, s .few)))
+
+scatter-requires : tie.Need-scatter-requires
+scatter-requires c κs =
+    let backward′ = c .before .before .before .before .backward in
+    let forward′ = c .before .before .before .before .before .before .before .before .forward in
+    let gather′ = c .before .before .before .before .before .before .before .before .before .before .before .before .gather in
+    let args′ = c .before .before .before .before .before .before .before .before .before .before .before .before .before .before .before .before .before .before .before .before .before .before .args in
+    let pre′ = c .before .before .before .before .before .before .before .before .before .before .before .before .before .before .before .before .before .before .before .before .before .before .pre in
+    let k = backward′ .kept .1 .1 .1 .1 .1 .0 ∙ forward′ .kept .1 .1 .1 .1 .0 ∙ gather′ .kept .1 .1 .0 in
+    let s = solving-at (args′ .firsts .now) (args′ .starts .now) (args′ .rows .now) (args′ .permutation .now) (args′ .values .now) (args′ .entries) _ _ k (pre′ .0) in
+    ((s .long, pre′ .1 ∙ sym k), s .once)
 
 same-length : tie.Need-same-length
-same-length c = search needs
+same-length c =
+    let backward′ = c .before .before .before .before .before .before .before .backward in
+    let forward′ = c .before .before .before .before .before .before .before .before .before .before .before .forward in
+    let gather′ = c .before .before .before .before .before .before .before .before .before .before .before .before .before .before .before .gather in
+    backward′ .kept .1 .1 .1 .1 .1 .0 ∙ forward′ .kept .1 .1 .1 .1 .0 ∙ gather′ .kept .1 .1 .0
 
 same-length-2 : tie.Need-same-length-2
 same-length-2 c = search needs
 
 returns : tie.Need-returns
 returns c =
-    let args′ = c .before .before .before .before .before .before .before .before .before .before .before .before .before .before .before .before .before .before .args in
-    let pre′ = c .before .before .before .before .before .before .before .before .before .before .before .before .before .before .before .before .before .before .pre in
-    let solve-parts′ = c .before .before .before .before .solve-parts in
-    let k = length-take-le (args′ .«record» .n) (args′ .floats .now) (pre′ .1 .0) in
-    part-solved (args′ .«record») (lent (args′ .permutation .now) (args′ .firsts .now) (args′ .starts .now) (args′ .rows .now) (args′ .values .now)) _ k (args′ .b .now) _ (solve-parts′ .ensures)
+    let args′ = c .before .before .before .before .before .before .before .before .before .before .before .before .before .before .before .before .before .before .before .before .before .before .before .before .before .args in
+    let gather′ = c .before .before .before .before .before .before .before .before .before .before .before .before .before .before .before .gather in
+    let forward′ = c .before .before .before .before .before .before .before .before .before .before .before .forward in
+    let backward′ = c .before .before .before .before .before .before .before .backward in
+    let scatter′ = c .before .before .scatter in
+    passes (args′ .firsts .now) (args′ .starts .now) (args′ .rows .now) (args′ .values .now) (args′ .permutation .now) (args′ .b .now) _ _ _ _ _ _ _ _ (gather′ .kept .1 .1 .0) (forward′ .kept .1 .1 .1 .1 .0 ∙ gather′ .kept .1 .1 .0) (backward′ .kept .1 .1 .1 .1 .1 .0 ∙ forward′ .kept .1 .1 .1 .1 .0 ∙ gather′ .kept .1 .1 .0) (gather′ .ensures) (forward′ .ensures) (backward′ .ensures) (scatter′ .ensures)
 
 pub solve-one-spec : {M : Type 1} → statement M
-solve-one-spec = tie.close (tie.spec add-many slice-aggregate-solve-parts slice-aggregate-solve-parts-2 slice-aggregate-solve-parts-3 slice-relend-prefix-solve-parts slice-aggregate-solve-parts-4 solve-parts-requires same-length same-length-2 returns)
+solve-one-spec = tie.close (tie.spec gather-requires forward-requires backward-requires scatter-requires same-length same-length-2 returns)
