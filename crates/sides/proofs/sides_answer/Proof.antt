@@ -1,7 +1,8 @@
-use Rattle.sides.proofs.Answered.{many, wrong, short-words, short-floats, enough}
+-- `sides::sides_answer` meets its contract, test by test. Assumes nothing.
 use Prim.Native.Nat.{_≤_}
-use native.Mathlib.Nat.{mul-le-mul}
 use native.Mathlib.Omega.{arith}
+use native.Mathlib.Nat.{mul-le-mul}
+use Rattle.sides.proofs.Answered.{many, wrong, short-words, short-floats, enough}
 use Rattle.sides.proofs.sides_answer.Statement.{statement}
 use Rattle.sides.proofs.sides_answer.Tie as tie
 

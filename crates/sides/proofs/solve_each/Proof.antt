@@ -1,15 +1,12 @@
-use Rattle.sides.proofs.Each.{lent-long}
-use Prim.Native.Nat.{_+_}
-use mathlib.Core.Path.{_≡_}
 -- `sides::solve_each` meets its contract: one right side after another. Assumes nothing.
-use mathlib.Core.Path.{refl, sym, _∙_}
-use Prim.Native.Nat.{_-_, _*_}
+use mathlib.Core.Path.{_≡_, refl, sym, _∙_}
+use Prim.Native.Nat.{_+_, _-_, _*_}
 use native.Mathlib.Omega.{arith}
 use lib.ListN.{length}
 use borrow.Author.Needs.{needs}
 use Rattle.laws.specs.Lent.{laid}
 use Rattle.solving.proofs.Order.{solving-at}
-use Rattle.sides.proofs.Each.{Turn, each-start, each-long, each-room, turn-more, each-over}
+use Rattle.sides.proofs.Each.{Turn, each-start, each-long, each-room, lent-long, turn-more, each-over}
 use Rattle.sides.proofs.solve_each.Statement.{statement}
 use Rattle.sides.proofs.solve_each.Tie as tie
 

@@ -1,9 +1,10 @@
-use Rattle.solve.proofs.Answered.{no-factor, refused, roomy, accepted, as-lent}
-use Rattle.room.proofs.Short.{accepted-first}
-use Rattle.laws.proofs.Checked.{ready}
-use Rattle.laws.proofs.Taken.{no, yes, true-T}
+-- `solve::attempt` meets its contract: number 11, then 14, 10 and 5, then the solutions. Assumes nothing.
 use lib.ListN.{length}
 use borrow.Author.Needs.{needs}
+use Rattle.laws.proofs.Checked.{ready}
+use Rattle.laws.proofs.Taken.{no, yes, true-T}
+use Rattle.room.proofs.Short.{accepted-first}
+use Rattle.solve.proofs.Answered.{no-factor, refused, roomy, accepted, as-lent}
 use Rattle.solve.proofs.attempt.Statement.{statement}
 use Rattle.solve.proofs.attempt.Tie as tie
 
