@@ -3,8 +3,9 @@
 //   speed [TURNS]
 // factor: the whole call, twice on either side. 'made': all memory is allocated in the time measured. 'ready': the values (the Rust),
 // all areas (here) are allocated and written beforehand, as a caller who factors again has them; the Rust still allocates its
-// structure, and the library clears its areas once more. analyse: areas ready. The freeing of memory is not measured. Time is the
-// thread's time on a processor, so that waiting for other programs does not count.
+// structure, and the library clears its areas once more. analyse: areas ready. solve: forty right sides, the Rust one after another,
+// here by forty calls and by one, with areas 7 and 8 as factor had them. The freeing of memory is not measured. Time is the thread's
+// time on a processor, so that waiting for other programs does not count.
 mod cholesky;
 mod nosebagged;
 use cholesky::{FactorError, Symbolic, UpperColumns};
@@ -172,6 +173,35 @@ fn factors(a: &UpperColumns, y: &Symbolic, turns: usize) {
     ], &[("memory made", 0, 1), ("memory ready", 2, 3)]);
 }
 
+// A pass of forty elevations. Each time begins from the same right sides; to set them is not in the time.
+fn solves(a: &UpperColumns, y: &Symbolic, turns: usize) {
+    const SIDES: usize = 40;
+    let f = cholesky::Factor::new(a, usize::MAX).unwrap();
+    let mut s = touched(areas(a, y));
+    let r = nosebagged::factor(view(a), usize::MAX, Order::Plain, Stop::End, &mut s).unwrap();
+    let side: Vec<f64> = (0..SIDES * a.n).map(|i| (i % 97) as f64 - 48.0).collect();
+    let alone = |b: &mut [f64]| (0..SIDES).for_each(|j| f.solve(&mut b[j * a.n..(j + 1) * a.n]).unwrap());
+    let (mut x, mut b, mut c) = (side.clone(), side.clone(), side.clone());
+    alone(&mut x);
+    nosebagged::solve(&r, &mut s, SIDES, &mut b).unwrap();
+    assert!(x.iter().zip(&b).all(|(x, y)| x.to_bits() == y.to_bits()), "solutions differ");
+    let mut s2 = s.clone();
+    by_turns(turns, vec![
+        ("the Rust, forty", Box::new(|| {
+            x.copy_from_slice(&side);
+            timed(|| alone(&mut x)).0
+        })),
+        ("solve, forty calls", Box::new(|| {
+            b.copy_from_slice(&side);
+            timed(|| (0..SIDES).for_each(|j| nosebagged::solve(&r, &mut s, 1, &mut b[j * a.n..(j + 1) * a.n]).unwrap())).0
+        })),
+        ("solve, one call", Box::new(|| {
+            c.copy_from_slice(&side);
+            timed(|| nosebagged::solve(&r, &mut s2, SIDES, &mut c).unwrap()).0
+        })),
+    ], &[("one call", 0, 2), ("calls to one", 1, 2)]);
+}
+
 // The first row full: everything fills in, and the cap refuses it once the entries are counted.
 fn refusals(n: usize, turns: usize) {
     let a = columns(n, |k| if k == 0 { vec![0] } else { vec![0, k] }, |i, k| if i == k { 2.0 * n as f64 } else { -1.0 });
@@ -199,6 +229,7 @@ fn main() {
         show(name, &a, &y);
         factors(&a, &y, turns);
         analyses(&a, &y, turns);
+        solves(&a, &y, turns);
     }
     for (name, a) in [("arrow of 31 columns", arrow(32768, 31)), ("band of 31", band(32768, 30))] {
         let y = Symbolic::new(&a, usize::MAX).unwrap();

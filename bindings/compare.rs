@@ -280,6 +280,7 @@ struct Met {
     accepted: usize,
     over_cap: usize,
     wrong_pivot: usize,
+    calls: usize,
     solved: usize,
     not_a_number: usize,
     columns: usize,
@@ -340,19 +341,27 @@ fn trial(d: &mut Draw, a: UpperColumns, met: &mut Met) {
             }
             assert_eq!(at, l.len());
             assert_eq!(nosebagged::column(&r, &s, a.n, &mut []), 0);
-            // right sides, tame and odd
-            for odd_side in [false, false, true] {
-                let mut b: Vec<f64> = (0..a.n).map(|_| if odd_side && d.below(5) == 0 { odd(d) } else { 20.0 * d.unit() - 10.0 }).collect();
-                let mut x = b.clone();
-                nosebagged::solve(&r, &mut s, &mut b).unwrap();
-                f.solve(&mut x).unwrap();
-                same_floats("solution", &b, &x);
-                scratch_is_zero(&s);
-                met.solved += 1;
-                met.not_a_number += x.iter().any(|v| v.is_nan()) as usize;
+            // right sides, tame and odd, in one call; the Rust solves each alone
+            let sides = if d.below(20) == 0 { [0, 64][d.below(2)] } else { 1 + d.below(4) };
+            let mut b = Vec::new();
+            for _ in 0..sides {
+                let odd_side = d.below(3) == 0;
+                b.extend((0..a.n).map(|_| if odd_side && d.below(5) == 0 { odd(d) } else { 20.0 * d.unit() - 10.0 }));
             }
-            let mut long = vec![1.0; a.n + 1];
-            assert_eq!(nosebagged::solve(&r, &mut s, &mut long), Err(Refusal::WrongSide { length: a.n + 1 }));
+            let mut x = b.clone();
+            nosebagged::solve(&r, &mut s, sides, &mut b).unwrap();
+            for j in 0..sides {
+                let own = &mut x[j * a.n..(j + 1) * a.n];
+                f.solve(own).unwrap();
+                met.not_a_number += own.iter().any(|v| v.is_nan()) as usize;
+            }
+            same_floats("solutions", &b, &x);
+            scratch_is_zero(&s);
+            met.solved += sides;
+            met.calls += 1;
+            let mut long = vec![1.0; sides * a.n + 1];
+            assert_eq!(nosebagged::solve(&r, &mut s, sides, &mut long), Err(Refusal::WrongSide { length: sides * a.n + 1 }));
+            assert_eq!(nosebagged::solve(&r, &mut s, 65 + d.below(9), &mut long), Err(Refusal::ManySides));
             assert!(long.iter().all(|x| *x == 1.0));
             // any legal order gives the same bits; stopped, the first are final and the others zero
             let list = legal_order(d, &whole);
@@ -373,7 +382,7 @@ fn trial(d: &mut Draw, a: UpperColumns, met: &mut Met) {
                 }
                 same_floats("values of a partial factor", &other.values[..expected.len()], &expected);
                 let mut b = vec![1.0; a.n];
-                assert_eq!(nosebagged::solve(&part, &mut other, &mut b), Err(Refusal::NoFactor));
+                assert_eq!(nosebagged::solve(&part, &mut other, 1, &mut b), Err(Refusal::NoFactor));
                 assert_eq!(nosebagged::column(&part, &other, 0, &mut []), 0);
                 met.partial += 1;
                 let over = Stop::After(list.len() + 1);
@@ -401,7 +410,7 @@ fn trial(d: &mut Draw, a: UpperColumns, met: &mut Met) {
         (Ok(mut f), Ok(r)) => {
             assert_eq!(f.record, r);
             assert_eq!(f.areas.values.len(), r.entries());
-            assert!(f.solve(&mut vec![1.0; a.n]).is_ok());
+            assert!(f.solve(1, &mut vec![1.0; a.n]).is_ok());
             assert_eq!((0..a.n).map(|q| f.column(q).len()).sum::<usize>(), r.entries());
         }
         (x, y) => assert_eq!(x.err(), y.err()),
@@ -426,14 +435,15 @@ fn refusals() {
     let mut f = nosebagged::Factor::new(m, 3).unwrap();
     assert_eq!(f.areas.values, [2.0, 1.0, 2.0]);
     let mut b = [8.0, 12.0];
-    f.solve(&mut b).unwrap();
+    f.solve(1, &mut b).unwrap();
     assert_eq!(b, [1.0, 2.0]);
+    assert_eq!(f.solve(usize::MAX, &mut b), Err(Refusal::ManySides));
     f.areas.floats.truncate(1);
-    assert_eq!(f.solve(&mut b), Err(Refusal::ShortArea { area: 8, need: 2 }));
+    assert_eq!(f.solve(1, &mut b), Err(Refusal::ShortArea { area: 8, need: 2 }));
     assert_eq!(b, [1.0, 2.0]);
     for state in [0, 1, 2, 4, usize::MAX] {
         f.record.0[0] = state;
-        assert_eq!(f.solve(&mut b), Err(Refusal::NoFactor));
+        assert_eq!(f.solve(1, &mut b), Err(Refusal::NoFactor));
         assert!(f.column(0).is_empty());
     }
     assert_eq!(b, [1.0, 2.0]);
@@ -457,7 +467,7 @@ fn main() {
         trial(&mut d, a, &mut met);
     }
     println!(
-        "{count} small and 40 larger matrices from seed {seed}, all equal to the Rust: accepted {}, over the cap {}, a wrong pivot {}; solutions {} (with a NaN {}), columns {}, other orders {}, partial {}; the widest supernode {}, the most tasks {} and top entries {}",
-        met.accepted, met.over_cap, met.wrong_pivot, met.solved, met.not_a_number, met.columns, met.listed, met.partial, met.widest, met.most_tasks, met.most_top
+        "{count} small and 40 larger matrices from seed {seed}, all equal to the Rust: accepted {}, over the cap {}, a wrong pivot {}; solutions {} in {} calls (with a NaN {}), columns {}, other orders {}, partial {}; the widest supernode {}, the most tasks {} and top entries {}",
+        met.accepted, met.over_cap, met.wrong_pivot, met.solved, met.calls, met.not_a_number, met.columns, met.listed, met.partial, met.widest, met.most_tasks, met.most_top
     );
 }

@@ -29,9 +29,10 @@ enum {
     NOSEBAGGED_OVER_CAP = 6,        /* the factor's entries, the cap */
     NOSEBAGGED_WRONG_ORDER = 8,     /* position in the order list, or the supernode count */
     NOSEBAGGED_WRONG_PIVOT = 9,     /* the column, in the matrix's own numbering */
-    NOSEBAGGED_WRONG_SIDE = 10,     /* the right side's length */
+    NOSEBAGGED_WRONG_SIDE = 10,     /* the length of b, which is not n for each right side */
     NOSEBAGGED_NO_FACTOR = 11,      /* record or areas are no full factor */
-    NOSEBAGGED_WRONG_STRUCTURE = 12 /* never given */
+    NOSEBAGGED_WRONG_STRUCTURE = 12, /* never given */
+    NOSEBAGGED_MANY_SIDES = 14      /* more than 64 right sides */
 };
 
 /* The results of analyse and factor: 12 words. The last nine are the record, which solve and column take back. */
@@ -119,9 +120,10 @@ size_t nosebagged_factor(
     double *values, size_t values_count,
     size_t results[NOSEBAGGED_RESULTS]);
 
-/* b becomes the solution. record is the last nine words of factor's results; a state that is none of 0 to 3 is taken as empty. The
- * areas are as factor left them. answer becomes the number and its two details. Refused (11, 10, 5): b is unchanged. Returns the
- * number. */
+/* b has as many right sides as `sides` says, at most 64, n numbers each, one after another. Each becomes its own solution, with the
+ * bits that solving it alone gives. record is the last nine words of factor's results; a state that is none of 0 to 3 is taken as
+ * empty. The areas are as factor left them; areas 7 and 8 need n each, however many right sides there are. answer becomes the
+ * number and its two details. Refused (11, 14, 10, 5): all of b is unchanged. Returns the number. */
 size_t nosebagged_solve(
     const size_t record[9],
     const size_t *permutation, size_t permutation_count,
@@ -131,6 +133,7 @@ size_t nosebagged_solve(
     const double *values, size_t values_count,
     size_t *words, size_t words_count,
     double *floats, size_t floats_count,
+    size_t sides,
     double *b, size_t b_count,
     size_t answer[3]);
 

@@ -55,6 +55,7 @@ mod raw {
             values: *const f64, values_count: usize,
             words: *mut usize, words_count: usize,
             floats: *mut f64, floats_count: usize,
+            sides: usize,
             b: *mut f64, b_count: usize,
             answer: *mut [usize; 3],
         ) -> usize;
@@ -80,7 +81,7 @@ pub struct Matrix<'a> {
     pub values: &'a [f64],
 }
 
-/// Why a call was refused: document 01's numbers 1 to 12 with their details.
+/// Why a call was refused: document 01's numbers 1 to 12, and 14, with their details.
 #[derive(Debug, Clone, Copy, PartialEq, Eq)]
 pub enum Refusal {
     OverLimit,
@@ -94,6 +95,7 @@ pub enum Refusal {
     WrongSide { length: usize },
     NoFactor,
     WrongStructure,
+    ManySides,
     /// A number that no call of the library gives.
     Other { number: usize },
 }
@@ -112,6 +114,7 @@ impl Refusal {
             Refusal::WrongSide { .. } => 10,
             Refusal::NoFactor => 11,
             Refusal::WrongStructure => 12,
+            Refusal::ManySides => 14,
             Refusal::Other { number } => number,
         }
     }
@@ -131,6 +134,7 @@ fn answered(number: usize, one: usize, two: usize) -> Result<(), Refusal> {
         10 => Refusal::WrongSide { length: one },
         11 => Refusal::NoFactor,
         12 => Refusal::WrongStructure,
+        14 => Refusal::ManySides,
         _ => Refusal::Other { number },
     })
 }
@@ -331,8 +335,8 @@ pub fn factor(m: Matrix, cap: usize, order: Order, stop: Stop, s: &mut Areas) ->
     settled(number, results)
 }
 
-/// b becomes the solution; a refusal leaves it as it was.
-pub fn solve(record: &Record, s: &mut Areas, b: &mut [f64]) -> Result<(), Refusal> {
+/// So many right sides, n numbers each, stand in b one after another, and each becomes its solution; a refusal leaves b as it was.
+pub fn solve(record: &Record, s: &mut Areas, sides: usize, b: &mut [f64]) -> Result<(), Refusal> {
     let mut answer = [0; 3];
     // Safe: as in analyse.
     let number = unsafe {
@@ -345,6 +349,7 @@ pub fn solve(record: &Record, s: &mut Areas, b: &mut [f64]) -> Result<(), Refusa
             s.values.as_ptr(), s.values.len(),
             s.words.as_mut_ptr(), s.words.len(),
             s.floats.as_mut_ptr(), s.floats.len(),
+            sides,
             b.as_mut_ptr(), b.len(),
             &mut answer,
         )
@@ -389,8 +394,9 @@ impl Factor {
         }
     }
 
-    pub fn solve(&mut self, b: &mut [f64]) -> Result<(), Refusal> {
-        solve(&self.record, &mut self.areas, b)
+    /// So many right sides in b, one after another, each in place.
+    pub fn solve(&mut self, sides: usize, b: &mut [f64]) -> Result<(), Refusal> {
+        solve(&self.record, &mut self.areas, sides, b)
     }
 
     /// Column q of L, diagonal first; empty for a column not below n.

@@ -7,10 +7,11 @@
 //   1 n: dense, 1024.0 on the diagonal and 1.0 elsewhere; 2 n: dense, A(i,k) = 1 / (1 + i + 3k), diagonal 2 + k / 8
 //   3 x: run the last matrix in the plain order; 4 x, a list: in the list's order; x is 0 for the end, t + 1 for a stop after t
 // STDOUT has a line for each run: the answer's number, its two details, the state (0 empty, 2 partial, 3 full), supernodes,
-// entries, the sum of the values' bits; the number that solve answers, and the sum of the bits of b afterwards, b(i) = i + 1.
+// entries, the sum of the values' bits; the number that solve answers to three right sides in one call, b(i) = i + 1 over all of
+// them, and the sum of the bits of b afterwards.
 // The sum, in hexadecimal: h = 0; for each word x: h = rotate_left(h, 1) ^ x. Every NaN counts as 7ff8000000000000.
 //
-// A complete run is Factor::new and Factor::solve. A stopped one has the stretches of the supernodes that it names out of that
+// A complete run is Factor::new, and Factor::solve for each right side alone. A stopped one has the stretches of the supernodes that it names out of that
 // factor, and zeros. Where Factor::new fails it goes by document 01's rule for a stopped run, with the Rust's own step:
 // a failing supernode stops its ancestors, and the least failing column is named. That rule is also run wherever Factor::new
 // answers, and must agree with it. Number 8 is 01's; the Rust has no lists.
@@ -20,6 +21,7 @@ use std::collections::{BTreeMap, BTreeSet};
 use std::fmt::Write;
 
 const NAN: u64 = 0x7FF8000000000000;
+const SIDES: usize = 3;
 
 // ---- chance
 
@@ -359,10 +361,12 @@ fn known(m: &UpperColumns) -> Known {
         Err(FactorError::NotPositiveDefinite { column }) => Err(column),
         Err(e) => panic!("{e:?}"),
     };
-    let side: Vec<f64> = (0..m.n).map(|i| (i + 1) as f64).collect();
+    let side: Vec<f64> = (0..SIDES * m.n).map(|i| (i + 1) as f64).collect();
     let mut solution = side.clone();
     if let Ok(f) = &whole {
-        f.solve(&mut solution).unwrap();
+        for j in 0..SIDES {
+            f.solve(&mut solution[j * m.n..(j + 1) * m.n]).unwrap();
+        }
     }
     Known { symbolic, tree, whole, side, solution }
 }

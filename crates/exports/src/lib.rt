@@ -112,7 +112,7 @@ pub extern "C" fn nosebagged_factor(
     cross(made, results)
 }
 
-// solve with the record in its nine words; the number is returned, and answer has it with its details.
+// solve with the record in its nine words, for so many right sides; the number is returned, and answer has it with its details.
 #[no_mangle]
 pub extern "C" fn nosebagged_solve(
     record: &[usize; 9],
@@ -123,10 +123,11 @@ pub extern "C" fn nosebagged_solve(
     values: &[f64],
     words: &mut [usize],
     floats: &mut [f64],
+    sides: usize,
     b: &mut [f64],
     answer: &mut [usize; 3],
 ) -> usize
-    ensures { λ r. ⌜ SolveCrossed (solve (recordSaid (now («record» .entry))) (record { permutation = now (permutation .entry); firsts = now (firsts .entry); starts = now (starts .entry); rows = now (rows .entry); values = now (values .entry) }) (now (b .entry)) (length (now (words .entry))) (length (now (floats .entry)))) r (now (answer .exit)) (now (words .exit)) (now (floats .exit)) (now (b .exit)) ⌝ }
+    ensures { λ r. ⌜ SolveCrossed (solve (recordSaid (now («record» .entry))) (record { permutation = now (permutation .entry); firsts = now (firsts .entry); starts = now (starts .entry); rows = now (rows .entry); values = now (values .entry) }) sides (now (b .entry)) (length (now (words .entry))) (length (now (floats .entry)))) r (now (answer .exit)) (now (words .exit)) (now (floats .exit)) (now (b .exit)) ⌝ }
 {
     let a = solve(
         record_of(record),
@@ -137,6 +138,7 @@ pub extern "C" fn nosebagged_solve(
         values,
         words,
         floats,
+        sides,
         b,
     );
     let w = answer_words(a);

@@ -1,7 +1,6 @@
 -- Right sides one after another: where each stands, and that each is solved as it is alone (specs/Sides). Assumes nothing.
 use mathlib.Core.Path.{_≡_, refl, sym, ap, _∙_}
-use mathlib.Core.Logic.{⊎-elim, _≢_}
-use mathlib.Core.Bool.{true, false}
+use mathlib.Core.Logic.{⊎-elim}
 use mathlib.Core.List.{List, [], _∷_}
 use mathlib.Core.Option.{Option, none, some}
 use Prim.Native.Nat.{ℕ, zero, suc, _+_, _*_, _≤_, _<_}
@@ -12,7 +11,7 @@ use lib.Seq.{length-take-le, take-all, take-append-le, drop-append-le, drop-at}
 use lib.Ieee.{Float}
 use Rattle.statement.specs.Lists.{joined}
 use Rattle.statement.specs.Shape.{Shape}
-use Rattle.statement.specs.Solve.{FactorAreas, shapeIn, solution, sideIn, solutions, Solved, sidesFault, solveFault, settledSolve, solve}
+use Rattle.statement.specs.Solve.{FactorAreas, shapeIn, solution, sideIn, solutions, Solved, solveFault, settledSolve, solve}
 use Rattle.statement.specs.declared.Answer.{Answer}
 use Rattle.statement.specs.declared.Answer.the-variants.{Accepted}
 use Rattle.statement.specs.declared.Record.{Record}

@@ -7,11 +7,12 @@ use Rattle.pinned.specs.Contract.{Promise, Pinned}
 
 abbrev pub promise : Promise f.ended
 promise κs entry x exit =
-    let (R, (permutation, (firsts, (starts, (rows, (values, (words, (floats, (b, _))))))))) = entry in
-    let (_, (_, (_, (_, (_, (_, (words′, (floats′, (b′, _))))))))) = exit in
+    let (R, (permutation, (firsts, (starts, (rows, (values, (words, (floats, (sides, (b, _)))))))))) = entry in
+    let (_, (_, (_, (_, (_, (_, (words′, (floats′, (_, (b′, _)))))))))) = exit in
     Solves
     R
     (record { permutation = permutation .now; firsts = firsts .now; starts = starts .now; rows = rows .now; values = values .now })
+    sides
     (b .now)
     (length (words .now))
     (length (floats .now))

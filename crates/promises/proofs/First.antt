@@ -6,8 +6,8 @@ use lib.ListN.{getD}
 use Rattle.statement.specs.Answers.{number, details}
 use Rattle.statement.specs.declared.Answer.{Answer}
 use Rattle.laws.proofs.Exactly.{analyse-refused, factor-refused, solve-refused, zero-accepted}
-use Rattle.statement.specs.declared.Answer.the-variants.{Accepted, OverLimit, WrongLengths, WrongStarts, WrongColumn, ShortArea, OverCap, WrongOrder, WrongPivot, WrongSide, NoFactor, WrongStructure, WrongFrame}
-use Rattle.promises.specs.First.{Alike, accepted, overLimit, wrongLengths, wrongStarts, wrongColumn, shortArea, overCap, wrongOrder, wrongPivot, wrongSide, noFactor, wrongStructure, wrongFrame, Demand1}
+use Rattle.statement.specs.declared.Answer.the-variants.{Accepted, OverLimit, WrongLengths, WrongStarts, WrongColumn, ShortArea, OverCap, WrongOrder, WrongPivot, WrongSide, NoFactor, WrongStructure, WrongFrame, ManySides}
+use Rattle.promises.specs.First.{Alike, accepted, overLimit, wrongLengths, wrongStarts, wrongColumn, shortArea, overCap, wrongOrder, wrongPivot, wrongSide, noFactor, wrongStructure, wrongFrame, manySides, Demand1}
 
 -- the answer that a number and details tell
 abbrev back : ℕ → List ℕ → Answer
@@ -25,7 +25,8 @@ back (suc (suc (suc (suc (suc (suc (suc (suc (suc (suc zero)))))))))) d = WrongS
 back (suc (suc (suc (suc (suc (suc (suc (suc (suc (suc (suc zero))))))))))) d = NoFactor
 back (suc (suc (suc (suc (suc (suc (suc (suc (suc (suc (suc (suc zero)))))))))))) d = WrongStructure
 back (suc (suc (suc (suc (suc (suc (suc (suc (suc (suc (suc (suc (suc zero))))))))))))) d = WrongFrame (getD d 0 0)
-back (suc (suc (suc (suc (suc (suc (suc (suc (suc (suc (suc (suc (suc (suc n)))))))))))))) d = Accepted
+back (suc (suc (suc (suc (suc (suc (suc (suc (suc (suc (suc (suc (suc (suc zero)))))))))))))) d = ManySides
+back (suc (suc (suc (suc (suc (suc (suc (suc (suc (suc (suc (suc (suc (suc (suc n))))))))))))))) d = Accepted
 
 back-is : (a : Answer) → back (number a) (details a) ≡ a
 back-is Accepted = refl
@@ -41,6 +42,7 @@ back-is (WrongSide x) = refl
 back-is NoFactor = refl
 back-is WrongStructure = refl
 back-is (WrongFrame x) = refl
+back-is ManySides = refl
 
 back-alike : (n : ℕ) (d e : List ℕ) → Alike (back n d) (back n e)
 back-alike zero d e = accepted
@@ -57,7 +59,8 @@ back-alike (suc (suc (suc (suc (suc (suc (suc (suc (suc (suc zero)))))))))) d e 
 back-alike (suc (suc (suc (suc (suc (suc (suc (suc (suc (suc (suc zero))))))))))) d e = noFactor
 back-alike (suc (suc (suc (suc (suc (suc (suc (suc (suc (suc (suc (suc zero)))))))))))) d e = wrongStructure
 back-alike (suc (suc (suc (suc (suc (suc (suc (suc (suc (suc (suc (suc (suc zero))))))))))))) d e = wrongFrame (getD d 0 0) (getD e 0 0)
-back-alike (suc (suc (suc (suc (suc (suc (suc (suc (suc (suc (suc (suc (suc (suc n)))))))))))))) d e = accepted
+back-alike (suc (suc (suc (suc (suc (suc (suc (suc (suc (suc (suc (suc (suc (suc zero)))))))))))))) d e = manySides
+back-alike (suc (suc (suc (suc (suc (suc (suc (suc (suc (suc (suc (suc (suc (suc (suc n))))))))))))))) d e = accepted
 
 alike : (a b : Answer) → number a ≡ number b → Alike a b
 alike a b e = subst₂ Alike (back-is a) (ap (λ n. back n (details b)) e ∙ back-is b) (back-alike (number a) (details a) (details b))
@@ -76,13 +79,14 @@ same-number (wrongSide x y) = refl
 same-number noFactor = refl
 same-number wrongStructure = refl
 same-number (wrongFrame x y) = refl
+same-number manySides = refl
 
 -- demand 1
 pub demand-one : Demand1
 demand-one = record {
   analyses = λ M cap r x h. rw h (analyse-refused M cap r);
   factors = λ M cap o l e r x h. rw h (factor-refused M cap o l e r);
-  solves = λ R f b words floats x h. rw h (solve-refused R f b words floats);
+  solves = λ R f k b words floats x h. rw h (solve-refused R f k b words floats);
   zero = λ a. (zero-accepted a, λ e. ap number e);
   kinds = λ a b. (alike a b, same-number);
   whole = λ a b e d. sym (back-is a) ∙ ap₂ back e d ∙ back-is b;

@@ -4,11 +4,11 @@ use mathlib.Core.Logic.{_⊎_, inl, inr, ⊎-elim, _≢_}
 use mathlib.Core.Bool.{Bool, true, false, cond, _&&_}
 use mathlib.Core.List.{List, [], _∷_}
 use mathlib.Core.Option.{Option, none, some}
-use Prim.Native.Nat.{ℕ, _+_, _≤_, _<_}
+use Prim.Native.Nat.{ℕ, _+_, _*_, _≤_, _<_}
 use native.Mathlib.Omega.{arith}
 use lib.Dec.{T, ltb}
 use lib.ListN.{length, replicate}
-use borrow.Author.Tests.{eq-eqb, lt-ltb, le-ltb}
+use borrow.Author.Tests.{lt-ltb}
 use lib.Ieee.{Float, ofBits, round, span, climb, odd, units}
 use lib.Ieee as ieee
 use lib.Count.{trailingZeros}
@@ -20,7 +20,7 @@ use Rattle.statement.specs.Rules.{tolerance, entry}
 use Rattle.statement.specs.Answers.{number, test, orElse}
 use Rattle.statement.specs.Areas.{Need, needs, short, held}
 use Rattle.statement.specs.Calls.{inputFault, analysis, settled, later, recordOf, areasOf, structureRoom, analyseFault, analyse, Settled, factorNeeds, factorLater, orderOf, Factors}
-use Rattle.statement.specs.Solve.{FactorAreas, factoredIn, shapeIn, permutes, viewable, solvable, valuesIn, solveFault, settledSolve, solution, solve, view}
+use Rattle.statement.specs.Solve.{FactorAreas, factoredIn, shapeIn, permutes, viewable, solvable, valuesIn, solution, sidesLimit, sideIn, solutions, Solved, settledSolve, solve, view}
 use Rattle.statement.specs.Demands.{Such, Names, Obeys}
 use Rattle.statement.specs.declared.Answer.the-variants.{Accepted, ShortArea}
 use Rattle.statement.specs.declared.Original.{Original}
@@ -33,6 +33,7 @@ use Rattle.statement.specs.declared.Answer.{Answer}
 use Rattle.statement.specs.declared.Stop.{Stop}
 use Rattle.laws.specs.Numbered.{factored, shape}
 use Rattle.laws.proofs.Analysed as analysed
+use Rattle.laws.proofs.Exactly.{solve-passes}
 use Rattle.laws.proofs.Faults.{entries-fit}
 use Rattle.laws.proofs.Finite.{fits-entry}
 use Rattle.laws.proofs.RootFinite.{pivot-positive}
@@ -41,10 +42,11 @@ use Rattle.laws.proofs.Bools.{and-both, T-true}
 use Rattle.laws.proofs.Given.{factor-given}
 use Rattle.laws.proofs.Solvable.{bare, accepted-solvable}
 use Rattle.laws.proofs.Solvable as solvable
+use Rattle.laws.proofs.Sides.{solutions-length, solutions-side}
 use Rattle.laws.proofs.Stages.{short-passed}
 use Rattle.laws.specs.Given.{Ordered}
 use Rattle.promises.specs.Third.{X, S, A, Whole, Completed, Refused}
-use Rattle.promises.specs.Second.{Rooted, Success, Structure, nearestTolerance, DemandTwo, OnSuccess}
+use Rattle.promises.specs.Second.{Rooted, EachSolved, Success, Structure, nearestTolerance, DemandTwo, OnSuccess}
 use Rattle.promises.proofs.Places.{places}
 use Rattle.promises.proofs.Solution.{values-same, solution-is}
 use Rattle.promises.proofs.Third.{third-kept}
@@ -165,14 +167,18 @@ module _ (M : Matrix) (cap : ℕ) (r : Room) (such : Such M cap r) (v : List Flo
   unfolding recordOf
   columns = refl
 
-  accepts : (b : List Float) (words floats : ℕ) → solvable R f ≡ true → length b ≡ M .n → M .n ≤ words → M .n ≤ floats → solveFault R f b words floats ≡ none
-  unfolding solveFault test
-  accepts b words floats s e h k = rw (s, columns, eq-eqb (length b) (M .n) e, le-ltb words (M .n) h, le-ltb floats (M .n) k)
-
-  solved-by : (b : List Float) (words floats : ℕ) → solvable R f ≡ true → length b ≡ M .n → M .n ≤ words → M .n ≤ floats
-      → solve R f b words floats ≡ record { answer = Accepted; b = solution (M .n) (X M .permutation) (S M) v b; words = replicate words 0; floats = replicate floats +0 }
-  unfolding solve settledSolve
-  solved-by b words floats s e h k = rw (accepts b words floats s e h k, solution-back b)
+  solved-by : (k : ℕ) (b : List Float) (words floats : ℕ) (y : Solved) → solvable R f ≡ true → k ≤ sidesLimit → length b ≡ M .n * k → M .n ≤ words → M .n ≤ floats → y ≡ solve R f k b words floats → EachSolved M v k b words floats y
+  unfolding solve settledSolve recordOf
+  solved-by k b words floats y s few e h l u = record {
+    answer = ap (λ z. z .answer) q;
+    long = ap (λ z. length (z .b)) q ∙ solutions-length (M .n) (f .permutation) (shapeIn R f) (f .values) k b;
+    each = λ j i. ap (λ z. sideIn (M .n) (z .b) j) q ∙ solutions-side (M .n) (f .permutation) (shapeIn R f) (f .values) k j b i ∙ solution-back (sideIn (M .n) b j);
+    seven = ap (λ z. z .words) q;
+    eight = ap (λ z. z .floats) q;
+  }
+    where
+      q : _≡_ {A = Solved} y (record { answer = Accepted; b = solutions (M .n) (f .permutation) (shapeIn R f) (f .values) k b; words = replicate words 0; floats = replicate floats +0 })
+      q = u ∙ rw (solve-passes R f k b words floats s few e h l)
 
   -- the view of a column below n
   viewed-by : (q : Factored) → viewable R f ≡ true → q .0 < M .n → view R f q ≡ valuesIn (S M) v (q .0)
@@ -189,7 +195,7 @@ module _ (M : Matrix) (cap : ℕ) (r : Room) (such : Such M cap r) where
     v = v;
     completed = c;
     rooted = λ K d h k. rooted M cap r such v K d (c .rules K d h k);
-    solves = λ b words floats y q h k u. u ∙ rw (c .summary, c .areas) (solved-by M cap r such v (c .filled) b words floats can q h k);
+    solves = λ k b words floats y few q h l u. solved-by M cap r such v (c .filled) k b words floats y can few q h l (rw (c .summary, c .areas) at u);
     views = λ q y h u. u ∙ rw (c .summary, c .areas) (viewed-by M cap r such v (c .filled) q seen h);
   }
     where

@@ -12,7 +12,7 @@ use Rattle.statement.specs.Calls.{Settled, cleared, structureRoom, Analyses, Fa
 use Rattle.statement.specs.Solve.{FactorAreas, Solved, Solves}
 use Rattle.statement.specs.declared.Original.{Original}
 use Rattle.statement.specs.declared.Answer.{Answer}
-use Rattle.statement.specs.declared.Answer.the-variants.{Accepted, OverLimit, WrongLengths, WrongStarts, WrongColumn, ShortArea, OverCap, WrongOrder, WrongPivot, WrongSide, NoFactor, WrongStructure, WrongFrame}
+use Rattle.statement.specs.declared.Answer.the-variants.{Accepted, OverLimit, WrongLengths, WrongStarts, WrongColumn, ShortArea, OverCap, WrongOrder, WrongPivot, WrongSide, NoFactor, WrongStructure, WrongFrame, ManySides}
 use Rattle.statement.specs.declared.Order.{Order}
 use Rattle.statement.specs.declared.Record.{Record}
 use Rattle.statement.specs.declared.Room.{Room}
@@ -33,13 +33,14 @@ pub data Alike : Answer → Answer → Type 0 where
   noFactor : Alike NoFactor NoFactor
   wrongStructure : Alike WrongStructure WrongStructure
   wrongFrame : (x y : ℕ) → Alike (WrongFrame x) (WrongFrame y)
+  manySides : Alike ManySides ManySides
 
 pub record Demand1 : Type 0 where
   -- a refused analysis or factoring, whatever was lent, leaves an empty record and zeros in every area it writes
   pub analyses : (M : Matrix) (cap : ℕ) (r : Room) (x : Settled) → Analyses M cap r x → x .returned .answer ≢ Accepted → (x .returned .«record» ≡ emptyRecord) × (x .areas ≡ cleared (structureRoom r))
   pub factors : (M : Matrix) (cap : ℕ) (o : Order) (l : List ℕ) (e : Stop) (r : Room) (x : Settled) → Factors M cap o l e r x → x .returned .answer ≢ Accepted → (x .returned .«record» ≡ emptyRecord) × (x .areas ≡ cleared r)
-  -- a refused solve leaves the right side unchanged
-  pub solves : (R : Record) (f : FactorAreas) (b : List Float) (words floats : ℕ) (x : Solved) → Solves R f b words floats x → x .answer ≢ Accepted → x .b ≡ b
+  -- a refused solve leaves every right side unchanged
+  pub solves : (R : Record) (f : FactorAreas) (k : ℕ) (b : List Float) (words floats : ℕ) (x : Solved) → Solves R f k b words floats x → x .answer ≢ Accepted → x .b ≡ b
   -- only an accepted call answers 0; two kinds of fault never share a number; number and details together are the answer
   pub zero : (a : Answer) → (number a ≡ 0) ↔ (a ≡ Accepted)
   pub kinds : (a b : Answer) → (number a ≡ number b) ↔ Alike a b

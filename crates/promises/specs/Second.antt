@@ -4,7 +4,7 @@ use mathlib.Core.Path.{_≡_}
 use mathlib.Core.Logic.{_⊎_, _↔_}
 use mathlib.Core.Bool.{Bool, true, false}
 use mathlib.Core.List.{List, []}
-use Prim.Native.Nat.{ℕ, suc, _+_, _-_, _≤_, _<_}
+use Prim.Native.Nat.{ℕ, suc, _+_, _-_, _*_, _≤_, _<_}
 use lib.Dec.{T}
 use lib.ListN.{length, getD, replicate}
 use lib.Ieee.{Float, binary64, round, div}
@@ -17,7 +17,7 @@ use Rattle.statement.specs.Supernodes.{joins}
 use Rattle.statement.specs.Root.{IsRoot}
 use Rattle.statement.specs.Rules.{tolerance, passes, look, entry}
 use Rattle.statement.specs.Calls.{Settled, recordOf, areasOf, structureRoom, Analyses, orderOf, Factors}
-use Rattle.statement.specs.Solve.{factoredIn, valuesIn, Solved, solution, Solves, Views}
+use Rattle.statement.specs.Solve.{factoredIn, valuesIn, solution, sidesLimit, sideIn, Solved, Solves, Views}
 use Rattle.statement.specs.Demands.{Numbers, Such, Names}
 use Rattle.statement.specs.declared.Original.{Original}
 use Rattle.statement.specs.declared.Factored.{Factored}
@@ -93,13 +93,21 @@ module _ (M : Matrix) where
     pub below : (i : ℕ) → has i (rowsOf (S M) K) ≡ true → c < place i (rowsOf (S M) K) →
         look (S M) K (stretch (S M) v K) i c ≡ div binary64 (entry (S M) (A M) v (stretch (S M) v K) K i c) (look (S M) K (stretch (S M) v K) (first (S M) K + c) c)
 
+  -- k right sides solved: at each place the solution of the right side that stood there, as one solve has it; scratch zero
+  pub record EachSolved (v : List Float) (k : ℕ) (b : List Float) (words floats : ℕ) (y : Solved) : Type 0 where
+    pub answer : y .answer ≡ Accepted
+    pub long : length (y .b) ≡ M .n * k
+    pub each : (j : ℕ) → j < k → sideIn (M .n) (y .b) j ≡ solution (M .n) (X M .permutation) (S M) v (sideIn (M .n) b j)
+    pub seven : y .words ≡ replicate words 0
+    pub eight : y .floats ≡ replicate floats +0
+
   -- an accepted factor x: its values, what solve makes of it, and what the view hands back
   pub record Success (r : Room) (x : Settled) : Type 0 where
     pub v : List Float
     pub completed : Completed M r x v
     pub rooted : (K c : ℕ) → K < N M → c < width (S M) K → Rooted v K c
-    pub solves : (b : List Float) (words floats : ℕ) (y : Solved) → length b ≡ M .n → M .n ≤ words → M .n ≤ floats → Solves (x .returned .«record») (factoredIn (x .areas)) b words floats y
-        → y ≡ record { answer = Accepted; b = solution (M .n) (X M .permutation) (S M) v b; words = replicate words 0; floats = replicate floats +0 }
+    pub solves : (k : ℕ) (b : List Float) (words floats : ℕ) (y : Solved) → k ≤ sidesLimit → length b ≡ M .n * k → M .n ≤ words → M .n ≤ floats
+        → Solves (x .returned .«record») (factoredIn (x .areas)) k b words floats y → EachSolved v k b words floats y
     pub views : (q : Factored) (y : List Float) → q .0 < M .n → Views (x .returned .«record») (factoredIn (x .areas)) q y → y ≡ valuesIn (S M) v (q .0)
 
 -- 1e-10 is the nearest f64: 1 / 10 ^ 10, rounded once

@@ -10,7 +10,7 @@ use lib.Ieee.{Float}
 use Rattle.statement.specs.Solve.{FactorAreas, Solved, solve}
 use Rattle.statement.specs.Job.{Frames, whole, refusal, success, isAccepted, written, Printed, answerIn}
 use Rattle.statement.specs.declared.Answer.{Answer}
-use Rattle.statement.specs.declared.Answer.the-variants.{Accepted, OverLimit, WrongLengths, WrongStarts, WrongColumn, ShortArea, OverCap, WrongOrder, WrongPivot, WrongSide, NoFactor, WrongStructure, WrongFrame}
+use Rattle.statement.specs.declared.Answer.the-variants.{Accepted, OverLimit, WrongLengths, WrongStarts, WrongColumn, ShortArea, OverCap, WrongOrder, WrongPivot, WrongSide, NoFactor, WrongStructure, WrongFrame, ManySides}
 use Rattle.statement.specs.declared.Outcome.{Outcome}
 use Rattle.lines.specs.Placed.{placed}
 use Rattle.reply.specs.Made.{Made}
@@ -30,6 +30,7 @@ refused (WrongSide length) h = refl
 refused NoFactor h = refl
 refused WrongStructure h = refl
 refused (WrongFrame line) h = refl
+refused ManySides h = refl
 
 -- an outcome and a solution, written
 told : Outcome → List Float → List ℕ
@@ -44,14 +45,14 @@ unfolding told isAccepted
 told-yes x s h = let e : isAccepted (x .answer) ≡ true = ap isAccepted h in rw e
 
 module _ (j : Frames) {x : Outcome} {f : FactorAreas} {b : List Float} {words floats : ℕ} (m : Made j x f b words floats) where
-  told-is : told x (solve (x .«record») f b words floats .b) ≡ written (whole j)
+  told-is : told x (solve (x .«record») f 1 b words floats .b) ≡ written (whole j)
   unfolding written told
-  told-is = λ i. told (m .out i) (solve (m .out i .«record») (m .factor-areas i) (m .right i) (m .seven i) (m .eight i) .b)
+  told-is = λ i. told (m .out i) (solve (m .out i .«record») (m .factor-areas i) 1 (m .right i) (m .seven i) (m .eight i) .b)
 
   pub refused-is : x .answer ≢ Accepted → refusal (x .answer) ≡ written (whole j)
   refused-is h = told-no x _ h ∙ told-is
 
-  pub accepted-is : (s : Solved) → x .answer ≡ Accepted → s ≡ solve (x .«record») f b words floats → success (x .«record» .entries) (x .«record» .supernodes) (s .b) ≡ written (whole j)
+  pub accepted-is : (s : Solved) → x .answer ≡ Accepted → s ≡ solve (x .«record») f 1 b words floats → success (x .«record» .entries) (x .«record» .supernodes) (s .b) ≡ written (whole j)
   accepted-is s h z = told-yes x (s .b) h ∙ ap (λ t. told x (t .b)) z ∙ told-is
 
 -- ---- the buffer

@@ -41,6 +41,7 @@ pub fn answer(
         values,
         words,
         floats,
+        1,
         b,
     );
     put_success(out, record.entries, record.supernodes, b)

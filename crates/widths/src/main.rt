@@ -21,8 +21,8 @@ use statement::Stop;
 use std::num::nearest_u64_to_f64;
 use update::none;
 
-// The right side: b(i) = i + 1.
-fn put_side(b: &mut [f64]) {
+// The right sides: b(i) = i + 1 over all of them, so that no two are the same.
+fn put_sides(b: &mut [f64]) {
     let mut i: usize = 0;
     while i < b.len() {
         b[i] = nearest_u64_to_f64((i + 1) as u64);
@@ -30,7 +30,7 @@ fn put_side(b: &mut [f64]) {
     }
 }
 
-// Solves with what factor left, and prints the line.
+// Solves three right sides with what factor left, and prints the line.
 fn solve_and_print(
     x: Outcome,
     permutation: &[usize],
@@ -43,7 +43,7 @@ fn solve_and_print(
     b: &mut [f64],
 ) {
     let record = x.record;
-    put_side(b);
+    put_sides(b);
     let a = solve(
         record,
         permutation,
@@ -53,6 +53,7 @@ fn solve_and_print(
         values,
         words,
         floats,
+        3,
         b,
     );
     print(x, sum(values, record.entries), a, sum(b, b.len()));
@@ -193,7 +194,7 @@ fn lendable(n: usize, a: usize, starts: usize, rows: usize, values: usize, line:
 
 // Runs the matrix as a line of the kinds 3 and 4 says: the kind, where to stop, the list.
 fn run_line(line: &[usize], size: Size, starts: &[usize], rows: &[usize], values: &[f64]) {
-    let mut b = [0.0; 512];
+    let mut b = [0.0; 1536];
     let n = size.n;
     let a = size.a;
     if !lendable(n, a, starts.len(), rows.len(), values.len(), line.len()) {
@@ -211,7 +212,7 @@ fn run_line(line: &[usize], size: Size, starts: &[usize], rows: &[usize], values
         order_of(kind),
         &line[2..],
         stop_of(line[1]),
-        &mut b[..n],
+        &mut b[..3 * n],
     );
 }
 

@@ -26,7 +26,7 @@ same-length-3 : tie.Need-same-length-3
 same-length-3 c = c .before .before .before .before .before .before .before .before .solve .kept .1 .1 .1 .1 .1 .1 .1 .1 .0
 
 returns : tie.Need-returns
-returns c = solved _ (c .before .before .before .before .before .before .before .before .before .before .before .before .record-of .ensures) _ _ _ (c .before .before .before .before .before .before .before .before .solve .ensures) (c .before .answer-words .ensures) (c .number .ensures)
+returns c = solved _ (c .before .before .before .before .before .before .before .before .before .before .before .before .record-of .ensures) _ _ _ _ (c .before .before .before .before .before .before .before .before .solve .ensures) (c .before .answer-words .ensures) (c .number .ensures)
 
 pub nosebagged-solve-spec : {M : Type 1} → statement M
 nosebagged-solve-spec = tie.close (tie.spec record-of-requires solve-requires answer-words-requires number-requires same-length same-length-2 same-length-3 returns)

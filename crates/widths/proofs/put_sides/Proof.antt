@@ -1,11 +1,11 @@
--- `widths::put_side` is safe and ends. Assumes nothing.
+-- `widths::put_sides` is safe and ends. Assumes nothing.
 use mathlib.Core.Path.{_≡_}
 use Prim.Native.Nat.{_-_, _≤_}
 use native.Mathlib.Omega.{arith}
 use lib.ListN.{length, length-set}
 use borrow.Author.Needs.{needs}
-use Rattle.widths.proofs.put_side.Statement.{statement}
-use Rattle.widths.proofs.put_side.Tie as tie
+use Rattle.widths.proofs.put_sides.Statement.{statement}
+use Rattle.widths.proofs.put_sides.Tie as tie
 
 abbrev Inv-loop : tie.InvT-loop
 Inv-loop b₀ i₀ b i = (i ≤ length b) × (length b ≡ length b₀)
@@ -43,8 +43,8 @@ same-length c = search needs
 returns : tie.Need-returns Inv-loop μ-loop
 returns c = search needs
 
-pub put-side-spec : {M : Type 1} → statement M
-put-side-spec =
+pub put-sides-spec : {M : Type 1} → statement M
+put-sides-spec =
     tie.close
     (tie.spec
     Inv-loop
