@@ -16,7 +16,7 @@ put-success-requires : tie.Need-put-success-requires
 put-success-requires c κs =
     let solve′ = c .before .before .before .before .before .before .before .before .solve in
     let pre′ = c .before .before .before .before .before .before .before .before .before .before .before .before .before .before .before .before .before .before .before .before .before .before .before .pre in
-    let h = solve′ .kept .1 .1 .1 .1 .1 .1 .1 .1 .0 in omega (arith, pre′)
+    let h = solve′ .kept .1 .1 .1 .1 .1 .1 .1 .1 .1 .0 in omega (arith, pre′)
 
 same-length : tie.Need-same-length
 same-length c =
@@ -31,7 +31,7 @@ same-length-2 c =
 same-length-3 : tie.Need-same-length-3
 same-length-3 c =
     let solve′ = c .before .before .before .before .before .before .before .before .before .solve in
-    solve′ .kept .1 .1 .1 .1 .1 .1 .1 .1 .0
+    solve′ .kept .1 .1 .1 .1 .1 .1 .1 .1 .1 .0
 
 returns-2 : tie.Need-returns-2
 returns-2 c =
