@@ -30,6 +30,7 @@ run-line-spec =
     (λ c. let h = c .before .before .before .before .before .before .before .before .before .lendable .ensures (not-false _ (c .before .before .before .before .before .before .before .before .if1 .left)) in omega arith)
     (λ c κs. tt)
     (λ c. let h = c .before .before .before .before .before .before .before .before .before .before .lendable .ensures (not-false _ (c .before .before .before .before .before .before .before .before .before .if1 .left)) in omega arith)
+    (λ c. let h = c .before .before .before .before .before .before .before .before .before .before .lendable .ensures (not-false _ (c .before .before .before .before .before .before .before .before .before .if1 .left)) in omega arith)
     (λ c. let h = c .before .before .before .before .before .before .before .before .before .before .before .lendable .ensures (not-false _ (c .before .before .before .before .before .before .before .before .before .before .if1 .left)) in simp length-take (omega arith))
     (λ c κs. tt)
     (λ c. tt))
