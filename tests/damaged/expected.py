@@ -1,8 +1,10 @@
 #!/usr/bin/env python3
-"""Writes what crates/damaged must print, from document 01 alone: python3 tests/damaged/expected.py > crates/damaged/stdout
+"""Writes what crates/damaged must print, from document 01 and request A2 alone:
+python3 tests/damaged/expected.py > crates/damaged/stdout
 
 Each case names the number that it must get, by reasoning; 01's rules (a) to (e) and 'Solving' are written out below as
-well, in f64, each operation rounded once, and the two must agree. Only 'every word' goes by the rules alone.
+well, in f64, each operation rounded once, and A2's: k right sides stand one after another in the buffer, 64 at most, and
+each is solved as it is alone. The two must agree. Only 'every word' goes by the rules alone.
 """
 import copy
 import struct
@@ -10,7 +12,10 @@ import sys
 
 BIG = 2**63
 MAX = 2**64 - 1
-SIDE = [1.5, 0.1, -3.0, 0.7, 5.25, 1000000.3, 7.0, 8.0]
+FIRST = [1.5, 0.1, -3.0, 0.7, 5.25, 1000000.3, 7.0, 8.0]
+BUFFER = [FIRST[i % 8] + float(i % 192 // 8) for i in range(400)]
+BUFFER[200] = float("inf")
+BUFFER[210] = float("nan")
 
 # record counts (n, supernodes, rows, entries), then areas 1, 2, 3, 9, 11 with what stands past the needs
 DISHES = {
@@ -106,8 +111,13 @@ def solution(counts, perm, firsts, starts, rows, values, b):
     return out
 
 
+def parts(n, sides, b):
+    """The right sides of a buffer."""
+    return [b[n * j:n * (j + 1)] for j in range(sides)]
+
+
 def made(dish, damage, lending):
-    """The record and what is lent: state, counts, areas 1, 2, 3, 9, 11, the lengths of 7 and 8, and the right side."""
+    """The record and what is lent: state, counts, areas 1, 2, 3, 9, 11, the lengths of 7 and 8, and the buffer."""
     counts, *areas = copy.deepcopy(DISHES[dish])
     n, ns, nr, entries = counts
     need = {1: n, 2: n + 1, 3: n + 1, 9: nr, 11: entries, 7: n, 8: n, 12: n}
@@ -135,7 +145,7 @@ def made(dish, damage, lending):
     if lending == "loose":
         need.update({1: 8, 2: 9, 3: 9, 9: 13, 11: 13, 7: 8, 8: 8})
     lent = [l[:need[area]] for area, l in zip((1, 2, 3, 9, 11), areas)]
-    return full, tuple(counts), lent, need[7], need[8], SIDE[:need[12]]
+    return full, tuple(counts), lent, need[7], need[8], BUFFER[:need[12]]
 
 
 def named(damage):
@@ -151,11 +161,13 @@ def named(damage):
     return kind
 
 
-def answer(full, counts, lent, words, floats, b):
-    """11, 10, 5."""
+def answer(full, counts, lent, words, floats, b, sides=1):
+    """11, 14, 10, 5."""
     if not solve_asks(full, counts, *lent):
         return 11, 0, 0
-    if len(b) != counts[0]:
+    if sides > 64:
+        return 14, 0, 0
+    if len(b) != counts[0] * sides:
         return 10, len(b), 0
     if words < counts[0]:
         return 5, 7, counts[0]
@@ -164,15 +176,31 @@ def answer(full, counts, lent, words, floats, b):
     return 0, 0, 0
 
 
-def solved(dish, damage, lending, *expected):
-    full, counts, lent, words, floats, b = made(dish, damage, lending)
-    got = answer(full, counts, lent, words, floats, b)
+def tried(case, full, counts, lent, words, floats, b, sides, expected):
+    """Prints the case's line; returns the bits of each right side's solution."""
+    got = answer(full, counts, lent, words, floats, b, sides)
     want = tuple(expected) + (0,) * (3 - len(expected))
     if got != want:
-        sys.exit("%s %s, %s: by reasoning %s, by the rules %s" % (dish, named(damage), lending, want, got))
-    after = b if want[0] else solution(counts, *lent, b)
+        sys.exit("%s: by reasoning %s, by the rules %s" % (case, want, got))
+    alone = [] if want[0] else [solution(counts, *lent, side) for side in parts(counts[0], sides, b)]
+    after = b if want[0] else sum(alone, [])
     end = "" if want[0] else " :" + "".join(" %016x" % bits(x) for x in after)
-    print("%s %s, %s: %d %d %d 1 %016x %016x%s" % (dish, named(damage), lending, *want, total(b), total(after), end))
+    print("%s: %d %d %d 1 %016x %016x%s" % (case, *want, total(b), total(after), end))
+    return [list(map(bits, x)) for x in alone]
+
+
+def solved(dish, damage, lending, *expected):
+    return tried("%s %s, %s" % (dish, named(damage), lending), *made(dish, damage, lending), 1, expected)
+
+
+def solved_many(dish, damage, lending, sides, length, *expected):
+    *areas, _ = made(dish, damage, lending)
+    case = "%s %s, %d sides in %d, %s" % (dish, named(damage), sides, length, lending)
+    return tried(case, *areas, BUFFER[:length], sides, expected)
+
+
+def sound(dish, lending, sides, length, *expected):
+    return solved_many(dish, SOUND, lending, sides, length, *expected)
 
 
 def viewed(dish, damage, lending, q, length):
@@ -278,6 +306,48 @@ solved("six", REPEAT, "short 7 8 side", 11)
 solved("six", REPEAT, "short 7", 11)
 solved("six", SOUND, "short 7 8 side", 10, 5)
 solved("three", SOUND, "short 7 8 side", 10, 2)
+# many right sides, which differ
+sound("six", "exact", 2, 12, 0)
+sound("six", "exact", 3, 18, 0)
+sound("three", "exact", 2, 6, 0)
+sound("three", "exact", 3, 9, 0)
+sound("four", "exact", 2, 8, 0)
+sound("four", "exact", 3, 12, 0)
+sound("three", "exact", 64, 192, 0)
+if any(len(set(map(tuple, parts(n, 192 // n, BUFFER)))) != 192 // n for n in (3, 4, 6)):
+    sys.exit("two right sides are the same")
+# half of them twice: the same bits twice, but for the infinity's and the NaN's
+x = sound("six", "exact", 64, 384, 0)
+if [j for j in range(32) if x[j] != x[32 + j]] != [1, 3]:
+    sys.exit("by reasoning the same bits twice, by the rules not")
+sound("bare", "exact", 64, 0, 0)
+sound("bare", "exact", 0, 0, 0)
+sound("six", "exact", 0, 0, 0)
+# 14
+sound("six", "exact", 65, 390, 14)
+sound("six", "exact", 65, 6, 14)
+sound("bare", "exact", 65, 0, 14)
+sound("six", "exact", BIG, 0, 14)
+sound("six", "exact", BIG + 1, 6, 14)
+sound("six", "exact", MAX, 6, 14)
+# 10
+sound("six", "exact", 2, 6, 10, 6)
+sound("six", "exact", 2, 11, 10, 11)
+sound("six", "exact", 2, 13, 10, 13)
+sound("six", "exact", 1, 12, 10, 12)
+sound("six", "exact", 0, 6, 10, 6)
+sound("three", "exact", 64, 191, 10, 191)
+sound("bare", "exact", 64, 1, 10, 1)
+# the order
+solved_many("six", ("cleared",), "exact", 65, 390, 11)
+solved_many("six", ("state", "partial"), "short 7 8", 65, 389, 11)
+sound("six", "short 7 8", 65, 389, 14)
+sound("six", "short 7 8", 2, 11, 10, 11)
+sound("six", "short 7 8", 2, 12, 5, 7, 6)
+sound("six", "short 8", 2, 12, 5, 8, 6)
+sound("three", "short 7", 64, 192, 5, 7, 3)
+sound("three", "short 8", 64, 192, 5, 8, 3)
+sound("six", "short 7", 0, 0, 5, 7, 6)
 # the view
 for dish, lengths in (("six", [2, 2, 2, 2, 2, 1, 0]), ("three", [3, 2, 1, 0, 0, 0, 0])):
     for q, length in enumerate(lengths):

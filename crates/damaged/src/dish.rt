@@ -3,6 +3,7 @@ ghost use mathlib.Core.Path.{_≡_};
 ghost use lib.ListN.{length};
 use statement::Record;
 use statement::Stage;
+use std::num::nearest_u64_to_f64;
 
 pub enum Dish {
     // n = 6 of 'Sizes at the edges', with 1 for 2: five columns that meet in the last
@@ -162,9 +163,19 @@ pub fn values(dish: Dish) -> [f64; 13]
     }
 }
 
-// A right side: its first n are lent.
-pub fn side() -> [f64; 8]
-    ensures { λ r. ⌜ 8 ≡ length r ⌝ }
+// The buffer, of which the first numbers are lent. The first 192 are 64 right sides of three, or 32 of six, that all differ;
+// then they come again, with an infinity and a NaN among them.
+pub fn buffer() -> [f64; 400]
+    ensures { λ r. ⌜ 400 ≡ length r ⌝ }
 {
-    [1.5, 0.1, -3.0, 0.7, 5.25, 1000000.3, 7.0, 8.0]
+    let first = [1.5, 0.1, -3.0, 0.7, 5.25, 1000000.3, 7.0, 8.0];
+    let mut b = [0.0; 400];
+    let mut i: usize = 0;
+    while i < 400 {
+        b[i] = first[i % 8] + nearest_u64_to_f64((i % 192 / 8) as u64);
+        i += 1;
+    }
+    b[200] = 1.0 / 0.0;
+    b[210] = 0.0 / 0.0;
+    b
 }

@@ -1,18 +1,18 @@
-// How much is lent of what there is.
+// How much is lent of what there is. Of the buffer too, where it is for one right side; else its length is given apart.
 ghost use Prim.Native.Nat.{_≤_};
 use crate::damage::fewer;
 use crate::damage::more;
 use statement::Record;
 
 pub enum Lending {
-    // what each area needs, and n of the right side
+    // what each area needs, and n numbers of the buffer
     Exact,
     // all there is of each area
     Loose,
-    // of one area one less than it needs: 1, 2, 3, 9, 11, 7, 8, and 12 is the right side
+    // of one area one less than it needs: 1, 2, 3, 9, 11, 7, 8, and 12 is the buffer
     Short(usize),
     LongSide,
-    // areas 7 and 8 and the right side, one less each
+    // areas 7 and 8 and the buffer, one less each
     ShortAll,
     // areas 7 and 8
     ShortScratch,
@@ -28,7 +28,7 @@ fn need(record: Record, area: usize) -> usize {
     }
 }
 
-fn least(a: usize, b: usize) -> usize
+pub fn least(a: usize, b: usize) -> usize
     ensures { λ r. ⌜ r ≤ b ⌝ }
 {
     if a < b {

@@ -88,7 +88,7 @@ pub fn say_details(answer: Answer) {
     say_number(answers::second_detail(answer));
 }
 
-// Nothing, where the scratch is zero and a refusal kept the right side.
+// Nothing, where the scratch is zero and a refusal kept the buffer.
 pub fn say_fault(zero: bool, kept: bool) {
     if !zero {
         say(b" SCRATCH");

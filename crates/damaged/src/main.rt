@@ -1,6 +1,6 @@
-// Damaged records and areas, walked through solve and the view: a line for each damage, with the number answered.
-// What it must write was worked out from document 01 alone, the solutions by the operations of 'Solving' in f64, by
-// tests/damaged/expected.py.
+// Damaged records and areas, and buffers for any number of right sides, walked through solve and the view: a line for each,
+// with the number answered. What it must write was worked out from document 01 and request A2 alone, the solutions by the
+// operations of 'Solving' in f64, by tests/damaged/expected.py.
 mod damage;
 mod dish;
 mod lending;
@@ -17,5 +17,9 @@ fn main() {
     walk::cleared();
     walk::other_numbers();
     walk::order();
+    walk::many();
+    walk::too_many();
+    walk::wrong_lengths();
+    walk::many_in_order();
     walk::columns();
 }

@@ -4,14 +4,15 @@ use crate::damage::harm_values;
 use crate::damage::harm_words;
 use crate::damage::harmed;
 use crate::dish::Dish;
+use crate::dish::buffer;
 use crate::dish::firsts;
 use crate::dish::permutation;
 use crate::dish::record;
 use crate::dish::rows;
-use crate::dish::side;
 use crate::dish::starts;
 use crate::dish::values;
 use crate::lending::Lending;
+use crate::lending::least;
 use crate::lending::lent;
 use crate::line::say_all;
 use crate::line::say_damage;
@@ -32,14 +33,14 @@ use statement::Answer;
 use statement::Factored;
 use statement::Record;
 
-// What is called: solve, with all that can be said of it or with the number alone, or the view of a column.
+// What is called: solve for so many right sides, with all that can be said of it or with the number alone, or the view of a
+// column.
 pub enum Call {
-    Solving,
-    Numbering,
+    Solving { whole: bool, sides: usize },
     Viewing(usize),
 }
 
-// The number, and what is at fault besides; the details, 1 for scratch that is zero, the right side's sum before and after,
+// The number, and what is at fault besides; the details, 1 for scratch that is zero, the buffer's sum before and after,
 // and the solution where there is one.
 fn say_after(whole: bool, answer: Answer, before: u64, words: &[usize], floats: &[f64], b: &[f64]) {
     let accepted = number(answer) == 0;
@@ -71,6 +72,7 @@ fn solve_and_say(
     values: &[f64],
     words: &mut [usize],
     floats: &mut [f64],
+    sides: usize,
     b: &mut [f64],
 ) {
     let before = sum(b);
@@ -83,6 +85,7 @@ fn solve_and_say(
         values,
         words,
         floats,
+        sides,
         b,
     );
     say_after(whole, answer, before, words, floats, b);
@@ -125,9 +128,9 @@ fn call_and_say(
     b: &mut [f64],
 ) {
     match call {
-        Call::Solving => {
+        Call::Solving { whole, sides } => {
             solve_and_say(
-                true,
+                whole,
                 harmed,
                 permutation,
                 firsts,
@@ -136,20 +139,7 @@ fn call_and_say(
                 values,
                 words,
                 floats,
-                b,
-            );
-        }
-        Call::Numbering => {
-            solve_and_say(
-                false,
-                harmed,
-                permutation,
-                firsts,
-                starts,
-                rows,
-                values,
-                words,
-                floats,
+                sides,
                 b,
             );
         }
@@ -172,6 +162,7 @@ fn lend(
     words: &mut [usize],
     floats: &mut [f64],
     b: &mut [f64],
+    length: usize,
 ) {
     let p = lent(sound, lending, 1, permutation.len());
     let f = lent(sound, lending, 2, firsts.len());
@@ -180,7 +171,7 @@ fn lend(
     let v = lent(sound, lending, 11, values.len());
     let w = lent(sound, lending, 7, words.len());
     let x = lent(sound, lending, 8, floats.len());
-    let n = lent(sound, lending, 12, b.len());
+    let n = least(length, b.len());
     call_and_say(
         call,
         harmed(sound, damage),
@@ -195,8 +186,8 @@ fn lend(
     );
 }
 
-// The scratch is lent full of other numbers.
-fn trial(dish: Dish, call: Call, damage: Damage, lending: Lending) {
+// The scratch is lent full of other numbers; of the buffer so many are lent as `length` says.
+fn trial(dish: Dish, call: Call, damage: Damage, lending: Lending, length: usize) {
     let mut p = permutation(dish);
     let mut f = firsts(dish);
     let mut s = starts(dish);
@@ -209,7 +200,7 @@ fn trial(dish: Dish, call: Call, damage: Damage, lending: Lending) {
     harm_values(&mut v, damage);
     let mut words = [9; 8];
     let mut floats = [9.0; 8];
-    let mut b = side();
+    let mut b = buffer();
     lend(
         call,
         record(dish),
@@ -223,20 +214,43 @@ fn trial(dish: Dish, call: Call, damage: Damage, lending: Lending) {
         &mut words,
         &mut floats,
         &mut b,
+        length,
     );
 }
 
-// One solve and its line.
+// One solve of one right side, and its line.
 pub fn solved(dish: Dish, damage: Damage, lending: Lending) {
+    let call = Call::Solving {
+        whole: true,
+        sides: 1,
+    };
+    let length = lent(record(dish), lending, 12, 400);
     say_dish(dish);
     say_damage(damage);
     say_lending(lending);
-    trial(dish, Call::Solving, damage, lending);
+    trial(dish, call, damage, lending, length);
+}
+
+// One solve of so many right sides in a buffer of some length, and its line.
+pub fn solved_many(dish: Dish, damage: Damage, lending: Lending, sides: usize, length: usize) {
+    let call = Call::Solving { whole: true, sides };
+    say_dish(dish);
+    say_damage(damage);
+    say(b",");
+    say_number(sides);
+    say(b" sides in");
+    say_number(length);
+    say_lending(lending);
+    trial(dish, call, damage, lending, length);
 }
 
 // The number of one solve.
 pub fn numbered(dish: Dish, damage: Damage) {
-    trial(dish, Call::Numbering, damage, Lending::Exact);
+    let call = Call::Solving {
+        whole: false,
+        sides: 1,
+    };
+    trial(dish, call, damage, Lending::Exact, record(dish).n);
 }
 
 // One view and its line.
@@ -246,5 +260,5 @@ pub fn viewed(dish: Dish, damage: Damage, lending: Lending, q: usize) {
     say_number(q);
     say_damage(damage);
     say_lending(lending);
-    trial(dish, Call::Viewing(q), damage, lending);
+    trial(dish, Call::Viewing(q), damage, lending, 0);
 }

@@ -9,6 +9,7 @@ use crate::line::say_area;
 use crate::line::say_dish;
 use crate::trial::numbered;
 use crate::trial::solved;
+use crate::trial::solved_many;
 use crate::trial::viewed;
 use lists::say;
 use statement::Stage;
@@ -234,6 +235,70 @@ pub fn order() {
     );
     solved(Dish::Six, Damage::Nothing, Lending::ShortAll);
     solved(Dish::Three, Damage::Nothing, Lending::ShortAll);
+}
+
+fn sound(dish: Dish, lending: Lending, sides: usize, length: usize) {
+    solved_many(dish, Damage::Nothing, lending, sides, length);
+}
+
+// Numbers of right sides, and lengths of the buffer. Accepted: n words and n floats of scratch are enough for any number.
+pub fn many() {
+    sound(Dish::Six, Lending::Exact, 2, 12);
+    sound(Dish::Six, Lending::Exact, 3, 18);
+    sound(Dish::Three, Lending::Exact, 2, 6);
+    sound(Dish::Three, Lending::Exact, 3, 9);
+    sound(Dish::Four, Lending::Exact, 2, 8);
+    sound(Dish::Four, Lending::Exact, 3, 12);
+    // the most
+    sound(Dish::Three, Lending::Exact, 64, 192);
+    // 32 right sides, and again, but with an infinity and a NaN
+    sound(Dish::Six, Lending::Exact, 64, 384);
+    sound(Dish::Bare, Lending::Exact, 64, 0);
+    // none
+    sound(Dish::Bare, Lending::Exact, 0, 0);
+    sound(Dish::Six, Lending::Exact, 0, 0);
+}
+
+// 14.
+pub fn too_many() {
+    sound(Dish::Six, Lending::Exact, 65, 390);
+    sound(Dish::Six, Lending::Exact, 65, 6);
+    sound(Dish::Bare, Lending::Exact, 65, 0);
+    // in 64 bits six times the first is 0, and six times the second 6
+    sound(Dish::Six, Lending::Exact, 0x8000_0000_0000_0000, 0);
+    sound(Dish::Six, Lending::Exact, 0x8000_0000_0000_0001, 6);
+    sound(Dish::Six, Lending::Exact, 0xffff_ffff_ffff_ffff, 6);
+}
+
+// 10.
+pub fn wrong_lengths() {
+    sound(Dish::Six, Lending::Exact, 2, 6);
+    sound(Dish::Six, Lending::Exact, 2, 11);
+    sound(Dish::Six, Lending::Exact, 2, 13);
+    sound(Dish::Six, Lending::Exact, 1, 12);
+    sound(Dish::Six, Lending::Exact, 0, 6);
+    sound(Dish::Three, Lending::Exact, 64, 191);
+    sound(Dish::Bare, Lending::Exact, 64, 1);
+}
+
+// 11 before 14 before 10 before 5.
+pub fn many_in_order() {
+    solved_many(Dish::Six, Damage::Cleared, Lending::Exact, 65, 390);
+    solved_many(
+        Dish::Six,
+        Damage::State(Stage::Partial),
+        Lending::ShortScratch,
+        65,
+        389,
+    );
+    sound(Dish::Six, Lending::ShortScratch, 65, 389);
+    sound(Dish::Six, Lending::ShortScratch, 2, 11);
+    sound(Dish::Six, Lending::ShortScratch, 2, 12);
+    sound(Dish::Six, Lending::Short(8), 2, 12);
+    sound(Dish::Three, Lending::Short(7), 64, 192);
+    sound(Dish::Three, Lending::Short(8), 64, 192);
+    // with none, too
+    sound(Dish::Six, Lending::Short(7), 0, 0);
 }
 
 fn whole(dish: Dish) {

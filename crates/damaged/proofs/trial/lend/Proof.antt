@@ -28,7 +28,7 @@ part-7 : tie.Need-slice-aggregate-call-and-say-7
 part-7 c = sym (length-take-le _ _ (c .before .before .before .before .before .before .before .before .before .lent7 .ensures))
 
 part-8 : tie.Need-slice-aggregate-call-and-say-8
-part-8 c = sym (length-take-le _ _ (c .before .before .before .before .before .before .before .before .before .lent8 .ensures))
+part-8 c = sym (length-take-le _ _ (c .before .before .before .before .before .before .before .before .before .least .ensures))
 
 pub lend-spec : {M : Type 1} → statement M
 lend-spec =
@@ -52,7 +52,7 @@ lend-spec =
     part-6
     (λ c. c .before .before .before .before .before .before .before .before .lent7 .ensures)
     part-7
-    (λ c. c .before .before .before .before .before .before .before .before .lent8 .ensures)
+    (λ c. c .before .before .before .before .before .before .before .before .least .ensures)
     part-8
     (λ c κs. tt)
     (λ c. search needs)
