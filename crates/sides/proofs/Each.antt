@@ -13,7 +13,7 @@ use Rattle.statement.specs.Lists.{joined}
 use Rattle.statement.specs.Shape.{Shape}
 use Rattle.statement.specs.Solve.{solution, sideIn, solutions}
 use Rattle.laws.specs.Lent.{laid}
-use Rattle.laws.proofs.Sides.{solutions-length, side-length}
+use Rattle.laws.proofs.Sides.{solutions-length}
 
 module _ (n : ℕ) (q : List ℕ) (S : Shape) (v : List Float) (k : ℕ) (b₀ : List Float) where
   pub record Each (b : List Float) (j : ℕ) : Type 0 where
@@ -42,9 +42,6 @@ module _ (n : ℕ) (q : List ℕ) (S : Shape) (v : List Float) (k : ℕ) (b₀ :
       pub each-lent : (d : ℕ) → d ≡ n → take d (drop (n * j) b) ≡ sideIn n b₀ j
       unfolding sideIn
       each-lent d e = rw (e, w .is, drop-at (solutions n q S v j b₀) (drop (n * j) b₀) (n * j) before)
-
-      pub lent-long : (d : ℕ) → d ≡ n → length (take d (drop (n * j) b)) ≡ n
-      lent-long d e = rw (each-lent d e) (side-length n k j b₀ whole h)
 
       pub each-more : (d : ℕ) → d ≡ n → (y : List Float) → y ≡ solution n q S v (take d (drop (n * j) b)) → Each (putMid (n * j) d b y) (j + 1)
       unfolding solutions joined

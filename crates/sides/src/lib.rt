@@ -3,7 +3,7 @@ ghost use mathlib.Core.Path.{_≡_};
 ghost use mathlib.Core.Bool.{true};
 ghost use Prim.Native.Nat.{_*_, _≤_};
 ghost use lib.ListN.{length};
-ghost use Rattle.statement.specs.Solve.{shapeIn, solvable, solutions, sidesFault};
+ghost use Rattle.statement.specs.Solve.{shapeIn, solvable, sidesLimit, solutions, sidesFault};
 ghost use Rattle.laws.specs.Answered.{answered};
 ghost use Rattle.laws.specs.Lent.{lent, laid};
 ghost use Rattle.solving.specs.Walk.{Solving};
@@ -44,7 +44,7 @@ fn solve_each(
     b: &mut [f64],
 )
     requires { ⌜ Solving (laid (length (now x)) (now firsts) (now starts) (now rows)) (now permutation) (now values) entries ⌝ }
-    requires { ⌜ length (now b) ≡ length (now x) * sides ⌝ }
+    requires { ⌜ (sides ≤ sidesLimit) × (length (now b) ≡ length (now x) * sides) ⌝ }
     ensures { λ _. ⌜ now (b .exit) ≡ solutions (length (now (x .entry))) (now (permutation .entry)) (laid (length (now (x .entry))) (now (firsts .entry)) (now (starts .entry)) (now (rows .entry))) (now (values .entry)) sides (now (b .entry)) ⌝ }
 {
     let n = x.len();
@@ -78,7 +78,7 @@ pub fn solve_sides(
     b: &mut [f64],
 )
     requires { ⌜ solvable «record» (lent (now permutation) (now firsts) (now starts) (now rows) (now values)) ≡ true ⌝ }
-    requires { ⌜ («record» .n ≤ length (now floats)) × (length (now b) ≡ «record» .n * sides) ⌝ }
+    requires { ⌜ («record» .n ≤ length (now floats)) × (sides ≤ sidesLimit) × (length (now b) ≡ «record» .n * sides) ⌝ }
     ensures { λ _. ⌜ now (b .exit) ≡ solutions («record» .n) (now (permutation .entry)) (shapeIn «record» (lent (now (permutation .entry)) (now (firsts .entry)) (now (starts .entry)) (now (rows .entry)) (now (values .entry)))) (now (values .entry)) sides (now (b .entry)) ⌝ }
 {
     let n = record.n;

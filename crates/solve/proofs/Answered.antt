@@ -10,7 +10,7 @@ use lib.ListN.{length, replicate}
 use lib.Ieee.{Float}
 use Rattle.statement.specs.Input.{+0}
 use Rattle.statement.specs.Answers.{test}
-use Rattle.statement.specs.Solve.{FactorAreas, shapeIn, solvable, solutions, Solved, sidesFault, solveFault, settledSolve, solve}
+use Rattle.statement.specs.Solve.{FactorAreas, shapeIn, solvable, sidesLimit, solutions, Solved, sidesFault, solveFault, settledSolve, solve}
 use Rattle.statement.specs.declared.Answer.{Answer}
 use Rattle.statement.specs.declared.Answer.the-variants.{Accepted, NoFactor}
 use Rattle.statement.specs.declared.Record.{Record}
@@ -41,8 +41,8 @@ module _ (R : Record) (f : FactorAreas) (k : ℕ) (b : List Float) (words floats
     refused n = (answers, sym (solve-refused R f k b words floats (λ q. n (answers ∙ q))))
 
     module _ (ok : a ≡ Accepted) where
-      pub roomy : (R .n ≤ floats) × (length b ≡ R .n * k)
-      roomy = let s = solve-given R f k b words floats .accepted .0 (sym answers ∙ ok) in (s .1 1 (omega arith), s .0 .1)
+      pub roomy : (R .n ≤ floats) × (k ≤ sidesLimit) × (length b ≡ R .n * k)
+      roomy = let s = solve-given R f k b words floats .accepted .0 (sym answers ∙ ok) in (s .1 1 (omega arith), s .0 .0 .1, s .0 .1)
 
       pub accepted : (x : List Float) → x ≡ solutions (R .n) (f .permutation) (shapeIn R f) (f .values) k b → Ends a x
       accepted x z = (answers, z ∙ sym (accepted-left R f words floats k b (sym answers ∙ ok)))

@@ -46,7 +46,7 @@ solve-each-requires c κs =
     let args′ = c .before .before .before .before .before .before .before .before .before .before .before .before .before .args in
     let pre′ = c .before .before .before .before .before .before .before .before .before .before .before .before .before .pre in
     let k = length-take-le (args′ .«record» .n) (args′ .floats .now) (pre′ .1 .0) in
-    (part-solving (args′ .«record») (lent (args′ .permutation .now) (args′ .firsts .now) (args′ .starts .now) (args′ .rows .now) (args′ .values .now)) _ k (pre′ .0), pre′ .1 .1 ∙ ap (λ i. i * args′ .sides) (sym k))
+    (part-solving (args′ .«record») (lent (args′ .permutation .now) (args′ .firsts .now) (args′ .starts .now) (args′ .rows .now) (args′ .values .now)) _ k (pre′ .0), (pre′ .1 .1, pre′ .1 .2 ∙ ap (λ i. i * args′ .sides) (sym k)))
 
 same-length : tie.Need-same-length
 same-length c = search needs
