@@ -1,6 +1,6 @@
 // Holds the library to the Rust baseline on drawn matrices: structure, values, refusals and solutions, bit for bit (any two NaNs
 // are equal). bench/run.sh builds and runs it; the first difference ends it.
-//   compare [COUNT [SEED]]     COUNT drawn matrices of at most 60 columns, then 40 larger ones
+//   compare [COUNT [SEED]]     one matrix of 32,768 columns with 64 right sides, COUNT drawn ones of at most 60 columns, then 40 larger ones
 mod cholesky;
 mod nosebagged;
 use cholesky::{FactorError, Symbolic, UpperColumns};
@@ -449,6 +449,26 @@ fn refusals() {
     assert_eq!(b, [1.0, 2.0]);
 }
 
+// The most of both: 64 right sides of 32,768 columns, which is 2,097,152 numbers.
+fn most(d: &mut Draw) {
+    let n = 32768;
+    let mut a = UpperColumns { n, ptr: vec![0], idx: Vec::new(), val: Vec::new() };
+    for k in 0..n {
+        for i in k.saturating_sub(2)..=k {
+            a.idx.push(i);
+            a.val.push(if i == k { 4.0 + d.unit() } else { d.unit() - 1.0 });
+        }
+        a.ptr.push(a.idx.len());
+    }
+    let f = cholesky::Factor::new(&a, usize::MAX).unwrap();
+    let mut mine = nosebagged::Factor::new(Matrix { n, starts: &a.ptr, rows: &a.idx, values: &a.val }, usize::MAX).unwrap();
+    let mut b: Vec<f64> = (0..64 * n).map(|_| 20.0 * d.unit() - 10.0).collect();
+    let mut x = b.clone();
+    mine.solve(64, &mut b).unwrap();
+    x.chunks_mut(n).for_each(|own| f.solve(own).unwrap());
+    same_floats("the most", &b, &x);
+}
+
 fn main() {
     let mut words = std::env::args().skip(1).map(|w| w.parse::<u64>().expect("a number"));
     let count = words.next().unwrap_or(600);
@@ -456,6 +476,7 @@ fn main() {
     let mut d = Draw(seed);
     let mut met = Met::default();
     refusals();
+    most(&mut d);
     for _ in 0..count {
         let cols = small(&mut d);
         let a = matrix(&mut d, &cols);
@@ -467,7 +488,7 @@ fn main() {
         trial(&mut d, a, &mut met);
     }
     println!(
-        "{count} small and 40 larger matrices from seed {seed}, all equal to the Rust: accepted {}, over the cap {}, a wrong pivot {}; solutions {} in {} calls (with a NaN {}), columns {}, other orders {}, partial {}; the widest supernode {}, the most tasks {} and top entries {}",
+        "{count} small and 40 larger matrices from seed {seed}, and one of 32,768 columns with 64 right sides, all equal to the Rust: accepted {}, over the cap {}, a wrong pivot {}; solutions {} in {} calls (with a NaN {}), columns {}, other orders {}, partial {}; the widest supernode {}, the most tasks {} and top entries {}",
         met.accepted, met.over_cap, met.wrong_pivot, met.solved, met.calls, met.not_a_number, met.columns, met.listed, met.partial, met.widest, met.most_tasks, met.most_top
     );
 }
