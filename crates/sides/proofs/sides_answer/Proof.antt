@@ -10,30 +10,19 @@ returns : tie.Need-returns
 returns c = many _ _ _ _ _ (omega arith)
 
 mul-if2 : tie.Need-mul-if2
-mul-if2 c =
-    let pre′ = c .before .pre in
-    let args′ = c .before .args in
-    omega (arith, pre′, mul-le-mul (pre′) (let h : args′ .sides ≤ 64 = omega arith in h))
+mul-if2 c = omega (arith, mul-le-mul (c .before .pre) (let h : c .before .args .sides ≤ 64 = omega arith in h))
 
 returns-2 : tie.Need-returns-2
-returns-2 c =
-    let if2′ = c .if2 in
-    wrong _ _ _ _ _ (omega arith) (if2′ .taken)
+returns-2 c = wrong _ _ _ _ _ (omega arith) (c .if2 .taken)
 
 returns-3 : tie.Need-returns-3
-returns-3 c =
-    let if2′ = c .before .if2 in
-    short-words _ _ _ _ _ (omega arith) (if2′ .left) (omega arith)
+returns-3 c = short-words _ _ _ _ _ (omega arith) (c .before .if2 .left) (omega arith)
 
 returns-4 : tie.Need-returns-4
-returns-4 c =
-    let if2′ = c .before .before .if2 in
-    short-floats _ _ _ _ _ (omega arith) (if2′ .left) (omega arith) (omega arith)
+returns-4 c = short-floats _ _ _ _ _ (omega arith) (c .before .before .if2 .left) (omega arith) (omega arith)
 
 returns-5 : tie.Need-returns-5
-returns-5 c =
-    let if2′ = c .before .before .if2 in
-    enough _ _ _ _ _ (omega arith) (if2′ .left) (omega arith) (omega arith)
+returns-5 c = enough _ _ _ _ _ (omega arith) (c .before .before .if2 .left) (omega arith) (omega arith)
 
 pub sides-answer-spec : {M : Type 1} → statement M
 sides-answer-spec = tie.close (tie.spec returns mul-if2 returns-2 returns-3 returns-4 returns-5)
