@@ -11,10 +11,10 @@
 // them, and the sum of the bits of b afterwards.
 // The sum, in hexadecimal: h = 0; for each word x: h = rotate_left(h, 1) ^ x. Every NaN counts as 7ff8000000000000.
 //
-// A complete run is Factor::new, and Factor::solve for each right side alone. A stopped one has the stretches of the supernodes that it names out of that
-// factor, and zeros. Where Factor::new fails it goes by document 01's rule for a stopped run, with the Rust's own step:
-// a failing supernode stops its ancestors, and the least failing column is named. That rule is also run wherever Factor::new
-// answers, and must agree with it. Number 8 is 01's; the Rust has no lists.
+// A complete run is Factor::new, and Factor::solve for each right side alone. A stopped one has the stretches of the supernodes
+// that it names out of that factor, and zeros. Where Factor::new fails it goes by document 01's rule for a stopped run, with the
+// Rust's own step: a failing supernode stops its ancestors, and the least failing column is named. That rule is also run wherever
+// Factor::new answers, and must agree with it. Number 8 is 01's; the Rust has no lists.
 mod cholesky;
 use cholesky::{Context, Factor, FactorError, Symbolic, UpperColumns};
 use std::collections::{BTreeMap, BTreeSet};
