@@ -21,7 +21,7 @@ module _ (R : Record) (f : FactorAreas) (k : ℕ) (b : List Float) (words floats
     pub long : length (solved .b) ≡ length b
     pub refused : solved .answer ≢ Accepted → solved .b ≡ b
     pub nothing : k ≡ 0 → solved .b ≡ b
-    -- the call answers as each of its right sides would alone, and leaves at j what that leaves
+    -- where the call is accepted, each of its right sides would be alone, and at j stands what that leaves
     pub accepted : (j : ℕ) → j < k → solved .answer ≡ Accepted → alone j .answer ≡ Accepted
     pub same : (j : ℕ) → j < k → solved .answer ≡ Accepted → sideIn (R .n) (solved .b) j ≡ alone j .b
     -- another buffer as long is answered alike, and where it has the same at j it gets the same there, whatever the others hold
