@@ -15,8 +15,10 @@ use Rattle.laws.proofs.Entry.{trap-suc, trap-mono, singly-same}
 use Rattle.areas.specs.Touch.{Touched}
 use Rattle.panel.specs.View.{cell}
 use Rattle.panels.specs.Dense.{inner, pivot, Column}
+use Rattle.panels.specs.Products.{less}
 use Rattle.areas.proofs.Touch as touch
 use Rattle.panels.proofs.Floats.{singly-start, singly-step}
+use Rattle.panels.proofs.Rising.{Four}
 use Rattle.statement.specs.Shape.{trapezoid}
 use Rattle.statement.specs.Root.{root}
 use Rattle.statement.specs.Rules.{dot, singly, panel, passes}
@@ -38,32 +40,51 @@ module _ (old : List Float) (m c c0 dst : ℕ) where
       none : (k : ℕ) → 0 ≡ k - k
       none k = omega arith
 
+  -- one product more, of column j; what stands before dst is as it was
+  module _ (w : List Float) (d : dst ≡ trapezoid m c) (h₂ : c < m)
+      (kept : (p : ℕ) → ((i : ℕ) → i < m - c → dst + i ≡ p → ⊥) → getD w p nan ≡ getD old p nan) where
+    one-less : (src i j j′ : ℕ) (x : Float) → c0 ≤ j → j < c → i < m - c → src ≡ trapezoid m j + (c - j) → j′ ≡ j + 1 →
+        x ≡ singly (getD old (dst + i) nan) (cell m old (c + i)) (cell m old c) c0 (j - c0) →
+        less w src i x ≡ singly (getD old (dst + i) nan) (cell m old (c + i)) (cell m old c) c0 (j′ - c0)
+    one-less src i j j′ x h₀ h₁ p e n s =
+        ap₂ (sub binary64) s (ap₂ (mul binary64) (row (src + i) i p there) (row src 0 (omega arith) here ∙ ap (λ p. cell m old p (c0 + (j - c0))) none)) ∙
+        singly-step (getD old (dst + i) nan) (cell m old (c + i)) (cell m old c) c0 (j - c0) ∙
+        ap (singly (getD old (dst + i) nan) (cell m old (c + i)) (cell m old c) c0) next
+      where
+        next : j - c0 + 1 ≡ j′ - c0
+        next = omega arith
+
+        none : c + 0 ≡ c
+        none = omega arith
+
+        back : j ≡ c0 + (j - c0)
+        back = omega arith
+
+        here : src ≡ trapezoid m j + (c + 0 - j)
+        here = omega arith
+
+        there : src + i ≡ trapezoid m j + (c + i - j)
+        there = omega arith
+
+        row : (x i : ℕ) → i < m - c → x ≡ trapezoid m j + (c + i - j) → getD w x nan ≡ cell m old (c + i) (c0 + (j - c0))
+        row x i p f = kept x (λ k l g. omega (arith, trap-suc m j, trap-mono m (suc j) c h₁)) ∙ ap (λ x. getD old x nan) f ∙ ap (cell m old (c + i)) back
+
   pub singled-more : (w w′ : List Float) (k src : ℕ) → dst ≡ trapezoid m c → Singled w k → c0 ≤ k → k < c → c < m → src ≡ trapezoid m k + (c - k) →
-      Touched nan w w′ (m - c) (λ i. dst + i) (λ i. sub binary64 (getD w (dst + i) nan) (mul binary64 (getD w (src + i) nan) (getD w src nan))) → Singled w′ (k + 1)
+      Touched nan w w′ (m - c) (λ i. dst + i) (λ i. less w src i (getD w (dst + i) nan)) → Singled w′ (k + 1)
   singled-more w w′ k src d t h₀ h₁ h₂ e u =
       touch.again nan old w (m - c) (λ i. dst + i) (λ i. singly (getD old (dst + i) nan) (cell m old (c + i)) (cell m old c) c0 (k - c0)) _ w′ _ t u
+      (λ i p. one-less w d h₂ (t .outside) src i k (k + 1) _ h₀ h₁ p e refl (t .inside i p))
+
+  -- four columns from k
+  pub singled-more4 : (w w′ : List Float) (k s₀ s₁ s₂ s₃ s₄ : ℕ) → dst ≡ trapezoid m c → Singled w k → c0 ≤ k → k + 4 ≤ c → c < m → s₀ ≡ trapezoid m k + (c - k) → Four m k c dst s₀ s₁ s₂ s₃ s₄ →
+      Touched nan w w′ (m - c) (λ i. dst + i) (λ i. less w s₃ i (less w s₂ i (less w s₁ i (less w s₀ i (getD w (dst + i) nan))))) → Singled w′ (k + 4)
+  singled-more4 w w′ k s₀ s₁ s₂ s₃ s₄ d t h₀ h₁ h₂ e f u =
+      touch.again nan old w (m - c) (λ i. dst + i) (λ i. singly (getD old (dst + i) nan) (cell m old (c + i)) (cell m old c) c0 (k - c0)) _ w′ _ t u
       (λ i p.
-      ap₂ (sub binary64) (t .inside i p) (ap₂ (mul binary64) (row i (src + i) p refl) (row₀ p)) ∙
-      singly-step (getD old (dst + i) nan) (cell m old (c + i)) (cell m old c) c0 (k - c0) ∙
-      ap (singly (getD old (dst + i) nan) (cell m old (c + i)) (cell m old c) c0) next)
-    where
-      next : k - c0 + 1 ≡ k + 1 - c0
-      next = omega arith
-
-      back : k ≡ c0 + (k - c0)
-      back = omega arith
-
-      apart : (i j x : ℕ) → i < m - c → x ≡ src + i → dst + j ≡ x → ⊥
-      apart i j x p f g = omega (arith, trap-suc m k, trap-mono m (suc k) c h₁)
-
-      there : (i x : ℕ) → x ≡ src + i → x ≡ trapezoid m k + (c + i - k)
-      there i x f = omega arith
-
-      row : (i x : ℕ) → i < m - c → x ≡ src + i → getD w x nan ≡ cell m old (c + i) (c0 + (k - c0))
-      row i x p f = t .outside x (λ j l g. apart i j x p f g) ∙ ap (λ x. getD old x nan) (there i x f) ∙ ap (cell m old (c + i)) back
-
-      row₀ : {i : ℕ} → i < m - c → getD w src nan ≡ cell m old c (c0 + (k - c0))
-      row₀ p = t .outside src (λ j l g. apart 0 j src (omega arith) (omega arith) g) ∙ ap (λ x. getD old x nan) e ∙ ap (cell m old c) back
+      one-less w d h₂ (t .outside) s₃ i (k + 3) (k + 4) _ (omega arith) (omega arith) p (f .at₃) (omega arith)
+      (one-less w d h₂ (t .outside) s₂ i (k + 2) (k + 3) _ (omega arith) (omega arith) p (f .at₂) (omega arith)
+      (one-less w d h₂ (t .outside) s₁ i (k + 1) (k + 2) _ (omega arith) (omega arith) p (f .at₁) (omega arith)
+      (one-less w d h₂ (t .outside) s₀ i k (k + 1) _ h₀ (omega arith) p e refl (t .inside i p)))))
 
   pub singled-all : (w : List Float) (k : ℕ) → dst ≡ trapezoid m c → Singled w k → k ≤ c → c ≤ k →
       Touched nan old w (m - c) (λ i. trapezoid m c + i) (λ i. singly (getD old (trapezoid m c + i) nan) (cell m old (c + i)) (cell m old c) c0 (c - c0))

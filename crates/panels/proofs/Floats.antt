@@ -1,5 +1,5 @@
 -- Small laws of floats and sums. Assumes nothing.
-use mathlib.Core.Path.{_≡_, refl, sym, ap}
+use mathlib.Core.Path.{_≡_, refl, sym, ap, ap₂}
 use Prim.Native.Nat.{ℕ, _+_}
 use native.Mathlib.Numerals.{add-one}
 use lib.Ieee.{Float, binary64, ofBits, add, sub, mul, div}
@@ -23,6 +23,9 @@ add-left z e = ap (λ u. add binary64 u z) e
 
 pub sub-left : {x y : Float} (z : Float) → x ≡ y → sub binary64 x z ≡ sub binary64 y z
 sub-left z e = ap (λ u. sub binary64 u z) e
+
+pub sub-product : {x y p q : Float} (a : Float) → x ≡ y → p ≡ q → sub binary64 x (mul binary64 p a) ≡ sub binary64 y (mul binary64 q a)
+sub-product a e f = ap₂ (sub binary64) e (ap₂ (mul binary64) f refl)
 
 pub div-left : {x y : Float} (z : Float) → x ≡ y → div binary64 x z ≡ div binary64 y z
 div-left z e = ap (λ u. div binary64 u z) e

@@ -4,7 +4,7 @@ ghost use mathlib.Core.Bool.{cond};
 ghost use Prim.Native.Nat.{ℕ, _+_, _-_, _*_, _<_, _≤_};
 ghost use lib.Dec.{ltb};
 ghost use lib.ListN.{getD, length, take};
-ghost use lib.Ieee.{nan, binary64, add, sub, mul, div};
+ghost use lib.Ieee.{nan, binary64, sub, div};
 ghost use Rattle.statement.specs.Input.{+0};
 ghost use Rattle.statement.specs.Shape.{trapezoid};
 ghost use Rattle.statement.specs.Rules.{dot, singly, panel};
@@ -12,6 +12,7 @@ ghost use Rattle.laws.specs.Lower.{among, lowerValue, Lower};
 ghost use Rattle.areas.specs.Touch.{Touched};
 ghost use Rattle.panel.specs.View.{cell};
 ghost use Rattle.panels.specs.Dense.{inner, Column, Dense};
+ghost use Rattle.panels.specs.Products.{plus, less};
 use panel::column_start;
 use panel::panel_column;
 use panel::panel_entry;
@@ -32,12 +33,29 @@ pub fn clear(w: &mut [f64], n: usize)
 // The product of the n rows from `at` of one column with the first of them is added to w.
 fn add1(w: &mut [f64], v: &[f64], at: usize, n: usize)
     requires { ⌜ (n ≤ length (now w)) × (at + n ≤ length (now v)) × (0 < n) ⌝ }
-    ensures { λ r. ⌜ Touched nan (now (w .entry)) (now (w .exit)) n (λ i. i) (λ i. add binary64 (getD (now (w .entry)) i nan) (mul binary64 (getD (now (v .entry)) (at + i) nan) (getD (now (v .entry)) at nan))) ⌝ }
+    ensures { λ r. ⌜ Touched nan (now (w .entry)) (now (w .exit)) n (λ i. i) (λ i. plus (now (v .entry)) at i (getD (now (w .entry)) i nan)) ⌝ }
 {
     let a = v[at];
     let mut i = 0;
     while i < n {
         w[i] = w[i] + v[at + i] * a;
+        i += 1;
+    }
+}
+
+// The same of four columns, one after the other; each starts a row below the one before it.
+fn add4(w: &mut [f64], v0: &[f64], v1: &[f64], v2: &[f64], v3: &[f64], at: usize, n: usize)
+    requires { ⌜ (n ≤ length (now w)) × (3 ≤ at) × (0 < n) × (at + n ≤ length (now v0)) × (at - 1 + n ≤ length (now v1)) × (at - 2 + n ≤ length (now v2)) × (at - 3 + n ≤ length (now v3)) ⌝ }
+    ensures { λ r. ⌜ Touched nan (now (w .entry)) (now (w .exit)) n (λ i. i) (λ i. plus (now (v3 .entry)) (at - 3) i (plus (now (v2 .entry)) (at - 2) i (plus (now (v1 .entry)) (at - 1) i (plus (now (v0 .entry)) at i (getD (now (w .entry)) i nan))))) ⌝ }
+{
+    let a0 = v0[at];
+    let a1 = v1[at - 1];
+    let a2 = v2[at - 2];
+    let a3 = v3[at - 3];
+    let mut i = 0;
+    while i < n {
+        w[i] = (((w[i] + v0[at + i] * a0) + v1[at - 1 + i] * a1) + v2[at - 2 + i] * a2)
+            + v3[at - 3 + i] * a3;
         i += 1;
     }
 }
@@ -50,6 +68,18 @@ pub fn sums(work: &mut [f64], v: &[f64], m: usize, q: usize, kw: usize)
     let n = m - q;
     clear(work, n);
     let mut k = 0;
+    while k + 4 <= kw {
+        add4(
+            work,
+            panel_column(v, m, k),
+            panel_column(v, m, k + 1),
+            panel_column(v, m, k + 2),
+            panel_column(v, m, k + 3),
+            q - k,
+            n,
+        );
+        k += 4;
+    }
     while k < kw {
         add1(work, panel_column(v, m, k), q - k, n);
         k += 1;
@@ -71,12 +101,29 @@ fn subtract_run(own: &mut [f64], at: usize, work: &[f64], n: usize)
 // From the n places from dst, the products of the n places from src with the first of them.
 fn sub1(own: &mut [f64], dst: usize, src: usize, n: usize)
     requires { ⌜ (0 < n) × (src + n ≤ dst) × (dst + n ≤ length (now own)) ⌝ }
-    ensures { λ r. ⌜ Touched nan (now (own .entry)) (now (own .exit)) n (λ i. dst + i) (λ i. sub binary64 (getD (now (own .entry)) (dst + i) nan) (mul binary64 (getD (now (own .entry)) (src + i) nan) (getD (now (own .entry)) src nan))) ⌝ }
+    ensures { λ r. ⌜ Touched nan (now (own .entry)) (now (own .exit)) n (λ i. dst + i) (λ i. less (now (own .entry)) src i (getD (now (own .entry)) (dst + i) nan)) ⌝ }
 {
     let a = own[src];
     let mut i = 0;
     while i < n {
         own[dst + i] = own[dst + i] - own[src + i] * a;
+        i += 1;
+    }
+}
+
+// The same of four sources, one after the other.
+fn sub4(own: &mut [f64], dst: usize, s0: usize, s1: usize, s2: usize, s3: usize, n: usize)
+    requires { ⌜ (0 < n) × (s0 + n ≤ dst) × (s1 + n ≤ dst) × (s2 + n ≤ dst) × (s3 + n ≤ dst) × (dst + n ≤ length (now own)) ⌝ }
+    ensures { λ r. ⌜ Touched nan (now (own .entry)) (now (own .exit)) n (λ i. dst + i) (λ i. less (now (own .entry)) s3 i (less (now (own .entry)) s2 i (less (now (own .entry)) s1 i (less (now (own .entry)) s0 i (getD (now (own .entry)) (dst + i) nan))))) ⌝ }
+{
+    let a0 = own[s0];
+    let a1 = own[s1];
+    let a2 = own[s2];
+    let a3 = own[s3];
+    let mut i = 0;
+    while i < n {
+        own[dst + i] = (((own[dst + i] - own[s0 + i] * a0) - own[s1 + i] * a1) - own[s2 + i] * a2)
+            - own[s3 + i] * a3;
         i += 1;
     }
 }
@@ -102,6 +149,14 @@ fn singles(own: &mut [f64], m: usize, c0: usize, c: usize)
     let n = m - c;
     let mut k = c0;
     let mut src = column_start(m, c0) + c - c0;
+    while k + 4 <= c {
+        let s1 = src + m - k - 1;
+        let s2 = s1 + m - k - 2;
+        let s3 = s2 + m - k - 3;
+        sub4(own, dst, src, s1, s2, s3, n);
+        src = s3 + m - k - 4;
+        k += 4;
+    }
     while k < c {
         sub1(own, dst, src, n);
         src = src + m - k - 1;

@@ -1,18 +1,19 @@
 -- `panels::add1` meets its contract. The loop adds each product at its place: Touched up to i. Assumes nothing.
 use mathlib.Core.Path.{refl}
 use borrow.Author.Needs.{needs}
-use Prim.Native.Nat.{_+_, _-_, _≤_}
+use Prim.Native.Nat.{_-_, _≤_}
 use native.Mathlib.Omega.{arith}
 use lib.ListN.{getD}
-use lib.Ieee.{nan, binary64, add, mul}
+use lib.Ieee.{nan}
 use Rattle.areas.specs.Touch.{Touched}
 use Rattle.areas.proofs.Touch as touch
+use Rattle.panels.specs.Products.{plus}
 use Rattle.panels.proofs.Floats.{add-left}
 use Rattle.panels.proofs.add1.Statement.{statement}
 use Rattle.panels.proofs.add1.Tie as tie
 
 abbrev Inv-loop : tie.InvT-loop
-Inv-loop w₀ v at n a i₀ w i = (i ≤ n) × Touched nan w₀ w i (λ i. i) (λ i. add binary64 (getD w₀ i nan) (mul binary64 (getD v (at + i) nan) (getD v at nan)))
+Inv-loop w₀ v at n a i₀ w i = (i ≤ n) × Touched nan w₀ w i (λ i. i) (λ i. plus v at i (getD w₀ i nan))
 
 abbrev μ-loop : tie.MeasureT-loop
 μ-loop w₀ v at n a i₀ w i = n - i

@@ -1,17 +1,19 @@
 -- `panels::sub1` meets its contract. Touched up to i; the source lies before the destination. Assumes nothing.
-use mathlib.Core.Path.{refl, ap₂}
+use mathlib.Core.Path.{refl}
 use borrow.Author.Needs.{needs}
 use Prim.Native.Nat.{_+_, _-_, _≤_}
 use native.Mathlib.Omega.{arith}
 use lib.ListN.{getD}
-use lib.Ieee.{nan, binary64, sub, mul}
+use lib.Ieee.{nan}
 use Rattle.areas.specs.Touch.{Touched}
 use Rattle.areas.proofs.Touch as touch
+use Rattle.panels.specs.Products.{less}
+use Rattle.panels.proofs.Floats.{sub-product}
 use Rattle.panels.proofs.sub1.Statement.{statement}
 use Rattle.panels.proofs.sub1.Tie as tie
 
 abbrev Inv-loop : tie.InvT-loop
-Inv-loop own₀ dst src n a i₀ own i = (i ≤ n) × Touched nan own₀ own i (λ i. dst + i) (λ i. sub binary64 (getD own₀ (dst + i) nan) (mul binary64 (getD own₀ (src + i) nan) (getD own₀ src nan)))
+Inv-loop own₀ dst src n a i₀ own i = (i ≤ n) × Touched nan own₀ own i (λ i. dst + i) (λ i. less own₀ src i (getD own₀ (dst + i) nan))
 
 abbrev μ-loop : tie.MeasureT-loop
 μ-loop own₀ dst src n a i₀ own i = n - i
@@ -64,7 +66,7 @@ loop-again c =
     let a = c .before .before .before .before .before .args in (
       omega arith,
       touch.more nan _ _ _ _ _ _ _ (l .inv .1) refl (omega arith) (λ k h e. omega arith)
-          (ap₂ (sub binary64) (l .inv .1 .outside (a .dst + l .i) (λ k h e. omega arith)) (ap₂ (mul binary64) (l .inv .1 .outside (a .src + l .i) (λ k h e. omega arith)) refl)),
+          (sub-product _ (l .inv .1 .outside (a .dst + l .i) (λ k h e. omega arith)) (l .inv .1 .outside (a .src + l .i) (λ k h e. omega arith))),
     )
 
 same-length : tie.Need-same-length Inv-loop μ-loop
