@@ -87,7 +87,7 @@ pub fn sums(work: &mut [f64], v: &[f64], m: usize, q: usize, kw: usize)
 }
 
 // work is subtracted from the n places from `at`.
-fn subtract_run(own: &mut [f64], at: usize, work: &[f64], n: usize)
+pub fn subtract_run(own: &mut [f64], at: usize, work: &[f64], n: usize)
     requires { ⌜ (n ≤ length (now work)) × (at + n ≤ length (now own)) ⌝ }
     ensures { λ r. ⌜ Touched nan (now (own .entry)) (now (own .exit)) n (λ i. at + i) (λ i. sub binary64 (getD (now (own .entry)) (at + i) nan) (getD (now (work .entry)) i nan)) ⌝ }
 {

@@ -5,4 +5,5 @@ pub mod Earlies
 pub mod Gather
 pub mod Takes
 pub mod Spots
+pub mod Runs
 pub mod Link

@@ -9,7 +9,7 @@ use lib.Ieee.{Float, nan, binary64, sub}
 use Rattle.laws.proofs.Entry.{trap-suc, trap-mono}
 use Rattle.areas.specs.Touch.{Touched}
 use Rattle.panel.specs.View.{cell}
-use Rattle.step.specs.Spread.{through, Spread}
+use Rattle.step.specs.Spread.{through, Spread, Rising}
 use Rattle.step.specs.Update.{posOf, spotOf, Target}
 use Rattle.areas.proofs.Touch as touch
 use Rattle.areas.proofs.Part as part
@@ -51,7 +51,7 @@ module _ (place rows : List ℕ) (vlen wlen off m kr km kw kv q : ℕ) (t : Targ
         sum : base + posOf place rows kr (q + i) ≡ spotOf place rows m kr q (q + i)
         sum = omega (arith, low i h, start-ge, e)
 
-    pub spread : (L : ℕ) → L ≡ vlen - off → Spread place rows base (kr + q) (km - q) L
+    spread : (L : ℕ) → L ≡ vlen - off → Spread place rows base (kr + q) (km - q) L
     spread L l =
         record {
           listed = omega (arith, t .listed, t .here);
@@ -62,6 +62,14 @@ module _ (place rows : List ℕ) (vlen wlen off m kr km kw kv q : ℕ) (t : Targ
       where
         assoc : (a b c : ℕ) → a + (b + c) ≡ a + b + c
         assoc a b c = omega arith
+
+    pub rising : (L : ℕ) → L ≡ vlen - off → Rising place rows base (kr + q) (km - q) L
+    rising L l =
+        record {
+          spread = spread L l;
+          some = omega (arith, t .here);
+          rise = λ i k g h. omega (arith, there i h, there k (omega arith), low i h, low k (omega arith), t .rise (q + k) (q + i) (omega arith) (omega arith) (omega arith));
+        }
 
     pub one-column : (v w work : List Float) → length v ≡ vlen →
         Touched nan (part.mid nan v off) w (km - q) (through place rows base (kr + q)) (λ i. sub binary64 (getD (part.mid nan v off) (through place rows base (kr + q) i) nan) (getD work i nan)) →

@@ -12,7 +12,7 @@ ghost use Rattle.panel.specs.View.{cell};
 ghost use Rattle.step.specs.Answer.{Assembled, Ready, Stepped};
 ghost use Rattle.step.specs.Ready.{Rows, inWords, Listed, Offsets, Own, Took, Gathered, Fresh, Scattered, FromA};
 ghost use Rattle.step.specs.Update.{spotOf, Target, Source, Updated};
-ghost use Rattle.step.specs.Spread.{through, Spread};
+ghost use Rattle.step.specs.Spread.{through, Spread, Rising};
 use statement::Factored;
 
 // place[rows[r0 + p]] = p for each of the m rows.
@@ -76,6 +76,31 @@ fn subtract_through(
     }
 }
 
+// The same where the places rise: if the last is n - 1 after the first, they are a run.
+fn subtract_rising(
+    own: &mut [f64],
+    base: usize,
+    place: &[usize],
+    rows: &[usize],
+    at: usize,
+    work: &[f64],
+    n: usize,
+)
+    requires { ⌜ Rising (now place) (now rows) base at n (length (now own)) ⌝ }
+    requires { ⌜ n ≤ length (now work) ⌝ }
+    ensures { λ r. ⌜ Touched nan (now (own .entry)) (now (own .exit)) n (through (now (place .entry)) (now (rows .entry)) base at) (λ i. sub binary64 (getD (now (own .entry)) (through (now (place .entry)) (now (rows .entry)) base at i) nan) (getD (now (work .entry)) i nan)) ⌝ }
+{
+    let r = rows[at];
+    let first = place[r];
+    let s = rows[at + (n - 1)];
+    let last = place[s];
+    if last - first == n - 1 {
+        panels::subtract_run(own, base + first, work, n);
+    } else {
+        subtract_through(own, base, place, rows, at, work, n);
+    }
+}
+
 // One target column of an update: from the column of row q of the earlier supernode, whose stretch starts at kv, its sum for each row from q.
 fn update_column(
     values: &mut [f64],
@@ -98,7 +123,7 @@ fn update_column(
     let r = rows[at];
     let c = place[r];
     let base = panel::column_start(m, c) - c;
-    subtract_through(&mut values[off..], base, place, rows, at, work, km - q);
+    subtract_rising(&mut values[off..], base, place, rows, at, work, km - q);
 }
 
 // An update: a target column for each of the earlier supernode's rows from p1 below p2.

@@ -44,23 +44,23 @@ column-start-requires c κs = omega (arith, c .before .before .before .before .b
 sub-base : tie.Need-sub-base
 sub-base c = omega (arith, c .column-start .ensures, spots.start-ge _ _ _ _ _ _ _ _ _ _ _ (c .before .before .before .before .before .before .before .before .before .before .before .before .before .pre))
 
-mul-subtract-through : tie.Need-mul-subtract-through
-mul-subtract-through c = search needs
+mul-subtract-rising : tie.Need-mul-subtract-rising
+mul-subtract-rising c = search needs
 
-sub-subtract-through : tie.Need-sub-subtract-through
-sub-subtract-through c = search needs
+sub-subtract-rising : tie.Need-sub-subtract-rising
+sub-subtract-rising c = search needs
 
-part-subtract-through-start : tie.Need-part-subtract-through-start
-part-subtract-through-start c = search needs
+part-subtract-rising-start : tie.Need-part-subtract-rising-start
+part-subtract-rising-start c = search needs
 
-part-subtract-through-end : tie.Need-part-subtract-through-end
-part-subtract-through-end c = search needs
+part-subtract-rising-end : tie.Need-part-subtract-rising-end
+part-subtract-rising-end c = search needs
 
-sub-subtract-through-2 : tie.Need-sub-subtract-through-2
-sub-subtract-through-2 c = search needs
+sub-subtract-rising-2 : tie.Need-sub-subtract-rising-2
+sub-subtract-rising-2 c = search needs
 
-subtract-through-requires : tie.Need-subtract-through-requires
-subtract-through-requires c κs = (spots.spread _ _ _ _ _ _ _ _ _ _ _ (c .before .before .before .before .before .before .before .before .before .before .before .before .before .before .before .pre) _ (c .before .before .column-start .ensures) _ (part.mid-length nan (c .before .before .before .before .before .before .before .before .before .before .before .before .before .before .before .args .values .now) (c .before .before .before .before .before .before .before .before .before .before .before .before .before .before .before .args .off)), omega (arith, c .before .before .before .before .before .before .before .sums .ensures .size, c .before .before .before .before .before .before .before .before .before .before .before .before .before .before .before .pre .room))
+subtract-rising-requires : tie.Need-subtract-rising-requires
+subtract-rising-requires c κs = (spots.rising _ _ _ _ _ _ _ _ _ _ _ (c .before .before .before .before .before .before .before .before .before .before .before .before .before .before .before .pre) _ (c .before .before .column-start .ensures) _ (part.mid-length nan (c .before .before .before .before .before .before .before .before .before .before .before .before .before .before .before .args .values .now) (c .before .before .before .before .before .before .before .before .before .before .before .before .before .before .before .args .off)), omega (arith, c .before .before .before .before .before .before .before .sums .ensures .size, c .before .before .before .before .before .before .before .before .before .before .before .before .before .before .before .pre .room))
 
 same-length : tie.Need-same-length
 same-length c = search needs
@@ -69,7 +69,7 @@ same-length-2 : tie.Need-same-length-2
 same-length-2 c = search needs
 
 returns : tie.Need-returns
-returns c = spots.one-column _ _ _ _ _ _ _ _ _ _ _ (c .before .before .before .before .before .before .before .before .before .before .before .before .before .before .before .before .before .before .pre) _ (c .before .before .before .before .before .column-start .ensures) _ _ (c .before .before .before .before .before .before .before .before .before .before .sums .last .0) refl (c .before .before .subtract-through .ensures) (c .before .before .before .before .before .before .before .before .before .before .sums .ensures .inside)
+returns c = spots.one-column _ _ _ _ _ _ _ _ _ _ _ (c .before .before .before .before .before .before .before .before .before .before .before .before .before .before .before .before .before .before .pre) _ (c .before .before .before .before .before .column-start .ensures) _ _ (c .before .before .before .before .before .before .before .before .before .before .sums .last .0) refl (c .before .before .subtract-rising .ensures) (c .before .before .before .before .before .before .before .before .before .before .sums .ensures .inside)
 
 pub update-column-spec : {M : Type 1} → statement M
 update-column-spec =
@@ -87,12 +87,12 @@ update-column-spec =
     shared-slice-read-c
     column-start-requires
     sub-base
-    mul-subtract-through
-    sub-subtract-through
-    part-subtract-through-start
-    part-subtract-through-end
-    sub-subtract-through-2
-    subtract-through-requires
+    mul-subtract-rising
+    sub-subtract-rising
+    part-subtract-rising-start
+    part-subtract-rising-end
+    sub-subtract-rising-2
+    subtract-rising-requires
     same-length
     same-length-2
     returns)
