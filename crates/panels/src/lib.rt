@@ -128,6 +128,19 @@ fn sub4(own: &mut [f64], dst: usize, s0: usize, s1: usize, s2: usize, s3: usize,
     }
 }
 
+// From the n places from dst, the same products, each as a sum of one.
+pub fn subtract_product(own: &mut [f64], dst: usize, src: usize, n: usize)
+    requires { ⌜ (0 < n) × (src + n ≤ dst) × (dst + n ≤ length (now own)) ⌝ }
+    ensures { λ r. ⌜ Touched nan (now (own .entry)) (now (own .exit)) n (λ i. dst + i) (λ i. sub binary64 (getD (now (own .entry)) (dst + i) nan) (plus (now (own .entry)) src i +0)) ⌝ }
+{
+    let a = own[src];
+    let mut i = 0;
+    while i < n {
+        own[dst + i] = own[dst + i] - (0.0 + own[src + i] * a);
+        i += 1;
+    }
+}
+
 // The n places from `at` are divided by r.
 fn divide(own: &mut [f64], at: usize, n: usize, r: f64)
     requires { ⌜ at + n ≤ length (now own) ⌝ }

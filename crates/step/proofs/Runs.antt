@@ -51,6 +51,21 @@ module _ (place rows : List ℕ) (base at n L : ℕ) (t : Rising place rows base
   pub in-order : first ≤ P (n - 1)
   in-order = omega (arith, first-is, reach P n (t .rise) (n - 1) (omega (arith, t .some)))
 
+  -- the part of a longer list from a on
+  pub shifted : (a L′ : ℕ) → a + L ≤ L′ → Rising place rows (a + base) at n L′
+  shifted a L′ h =
+      record {
+        spread =
+            record {
+              listed = t .spread .listed;
+              known = t .spread .known;
+              within = λ i l. omega (arith, t .spread .within i l);
+              apart = λ i k l g s. omega (arith, t .rise i k g l);
+            };
+        some = t .some;
+        rise = t .rise;
+      }
+
   module _ (e : P (n - 1) - first ≡ n - 1) where
     there : (i : ℕ) → i < n → base + first + i ≡ through place rows base at i
     there i h = omega (arith, first-is, run P n (t .rise) (ap (λ x. P (n - 1) - x) first-is ∙ e) i h)

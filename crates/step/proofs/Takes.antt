@@ -26,7 +26,7 @@ module _ (place rows : List ℕ) (vlen wlen off m w kr km kw kv p1 p2 : ℕ) (s 
         here = omega (arith, s .inK);
         listed = s .listed;
         room = omega (arith, s .room);
-        stretch = omega (arith, s .stretch, s .own);
+        stretch = s .stretch;
         known = s .known;
         rise = λ r t a b c. s .rise r t (omega arith) b c;
         inside = λ r a b. s .inside r (omega arith) b;

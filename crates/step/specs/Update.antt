@@ -24,7 +24,7 @@ pub record Target (place rows : List ℕ) (vlen wlen off m kr km kw kv q : ℕ) 
   pub here : q < km
   pub listed : kr + km ≤ length rows
   pub room : km ≤ wlen
-  pub stretch : kv + trapezoid km kw ≤ vlen
+  pub stretch : kv + trapezoid km kw ≤ off
   pub known : (r : ℕ) → r < km → getD rows (kr + r) 0 < length place
   -- J's positions of K's rows from q rise
   pub rise : (r s : ℕ) → q ≤ r → r < s → s < km → posOf place rows kr r < posOf place rows kr s

@@ -4,11 +4,13 @@ ghost use Prim.Native.Nat.{ℕ, suc, _+_, _*_, _-_, _<_, _≤_};
 ghost use lib.ListN.{getD, length, take, drop};
 ghost use lib.Ieee.{nan, binary64, sub};
 ghost use Rattle.laws.specs.Lent.{laid};
+ghost use Rattle.statement.specs.Input.{+0};
 ghost use Rattle.statement.specs.Shape.{width};
 ghost use Rattle.statement.specs.Rules.{dot};
 ghost use Rattle.laws.specs.Lower.{lowerValue, Lower, Pattern};
 ghost use Rattle.areas.specs.Touch.{Touched};
 ghost use Rattle.panel.specs.View.{cell};
+ghost use Rattle.panels.specs.Products.{plus};
 ghost use Rattle.step.specs.Answer.{Assembled, Ready, Stepped};
 ghost use Rattle.step.specs.Ready.{Rows, inWords, Listed, Offsets, Own, Took, Gathered, Fresh, Scattered, FromA};
 ghost use Rattle.step.specs.Update.{spotOf, Target, Source, Updated};
@@ -101,8 +103,57 @@ fn subtract_rising(
     }
 }
 
+// The products of the n values from src with the first of them, each as a sum of one, are subtracted at the places of the n rows from `at`.
+fn product_through(
+    own: &mut [f64],
+    base: usize,
+    place: &[usize],
+    rows: &[usize],
+    at: usize,
+    src: usize,
+    n: usize,
+)
+    requires { ⌜ Spread (now place) (now rows) base at n (length (now own)) ⌝ }
+    requires { ⌜ (0 < n) × (src + n ≤ base) ⌝ }
+    ensures { λ r. ⌜ Touched nan (now (own .entry)) (now (own .exit)) n (through (now (place .entry)) (now (rows .entry)) base at) (λ i. sub binary64 (getD (now (own .entry)) (through (now (place .entry)) (now (rows .entry)) base at i) nan) (plus (now (own .entry)) src i +0)) ⌝ }
+{
+    let a = own[src];
+    let mut i = 0;
+    while i < n {
+        let r = rows[at + i];
+        let p = base + place[r];
+        own[p] = own[p] - (0.0 + own[src + i] * a);
+        i += 1;
+    }
+}
+
+// The same where the places rise: if the last is n - 1 after the first, they are a run.
+fn product_rising(
+    own: &mut [f64],
+    base: usize,
+    place: &[usize],
+    rows: &[usize],
+    at: usize,
+    src: usize,
+    n: usize,
+)
+    requires { ⌜ Rising (now place) (now rows) base at n (length (now own)) ⌝ }
+    requires { ⌜ src + n ≤ base ⌝ }
+    ensures { λ r. ⌜ Touched nan (now (own .entry)) (now (own .exit)) n (through (now (place .entry)) (now (rows .entry)) base at) (λ i. sub binary64 (getD (now (own .entry)) (through (now (place .entry)) (now (rows .entry)) base at i) nan) (plus (now (own .entry)) src i +0)) ⌝ }
+{
+    let r = rows[at];
+    let first = place[r];
+    let s = rows[at + (n - 1)];
+    let last = place[s];
+    if last - first == n - 1 {
+        panels::subtract_product(own, base + first, src, n);
+    } else {
+        product_through(own, base, place, rows, at, src, n);
+    }
+}
+
 // One target column of an update: from the column of row q of the earlier supernode, whose stretch starts at kv, its sum for each row from q.
-fn update_column(
+fn update_summed(
     values: &mut [f64],
     off: usize,
     m: usize,
@@ -124,6 +175,52 @@ fn update_column(
     let c = place[r];
     let base = panel::column_start(m, c) - c;
     subtract_rising(&mut values[off..], base, place, rows, at, work, km - q);
+}
+
+// The same of an earlier supernode of one column, in one pass.
+fn update_single(
+    values: &mut [f64],
+    off: usize,
+    m: usize,
+    place: &[usize],
+    rows: &[usize],
+    kr: usize,
+    km: usize,
+    kv: usize,
+    q: usize,
+)
+    requires { ⌜ Target (now place) (now rows) (length (now values)) km off m kr km 1 kv q ⌝ }
+    ensures { λ r. ⌜ Touched nan (now (values .entry)) (now (values .exit)) (km - q) (λ i. off + spotOf (now (place .entry)) (now (rows .entry)) m kr q (q + i)) (λ i. sub binary64 (getD (now (values .entry)) (off + spotOf (now (place .entry)) (now (rows .entry)) m kr q (q + i)) nan) (dot (cell km (drop kv (now (values .entry))) (q + i)) (cell km (drop kv (now (values .entry))) q) 1)) ⌝ }
+{
+    let at = kr + q;
+    let r = rows[at];
+    let c = place[r];
+    let base = off + (panel::column_start(m, c) - c);
+    product_rising(values, base, place, rows, at, kv + q, km - q);
+}
+
+// One target column, by the earlier supernode's width.
+fn update_column(
+    values: &mut [f64],
+    off: usize,
+    m: usize,
+    place: &[usize],
+    rows: &[usize],
+    kr: usize,
+    km: usize,
+    kw: usize,
+    kv: usize,
+    q: usize,
+    work: &mut [f64],
+)
+    requires { ⌜ Target (now place) (now rows) (length (now values)) (length (now work)) off m kr km kw kv q ⌝ }
+    ensures { λ r. ⌜ Touched nan (now (values .entry)) (now (values .exit)) (km - q) (λ i. off + spotOf (now (place .entry)) (now (rows .entry)) m kr q (q + i)) (λ i. sub binary64 (getD (now (values .entry)) (off + spotOf (now (place .entry)) (now (rows .entry)) m kr q (q + i)) nan) (dot (cell km (drop kv (now (values .entry))) (q + i)) (cell km (drop kv (now (values .entry))) q) kw)) ⌝ }
+{
+    if kw == 1 {
+        update_single(values, off, m, place, rows, kr, km, kv, q);
+    } else {
+        update_summed(values, off, m, place, rows, kr, km, kw, kv, q, work);
+    }
 }
 
 // An update: a target column for each of the earlier supernode's rows from p1 below p2.
