@@ -1,17 +1,18 @@
 -- Sums and single products over a trapezoid's columns, one column more, or four. Assumes nothing.
 use mathlib.Core.Path.{_≡_, refl, sym, ap, ap₂, _∙_, subst}
 use mathlib.Core.List.{List}
-use Prim.Native.Nat.{ℕ, suc, _+_, _-_, _≤_, _<_}
+use Prim.Native.Nat.{ℕ, suc, _+_, _-_, _/_, _%_, _≤_, _<_}
 use native.Mathlib.Omega.{arith}
 use native.Mathlib.Numerals.{add-one}
-use lib.ListN.{getD}
+use native.Mathlib.Nat.{div-add-mod', mod-lt}
+use lib.ListN.{length, getD}
 use lib.Ieee.{Float, nan, binary64, add, mul}
 use Rattle.laws.proofs.Entry.{trap-suc, trap-mono}
 use Rattle.areas.specs.Touch.{Touched}
-use Rattle.panel.specs.View.{columnOf, cell}
-use Rattle.panel.proofs.Cells.{cell-in}
+use Rattle.panel.specs.View.{columnOf, cell, Within}
+use Rattle.panel.proofs.Cells.{within, column-length, cell-in}
 use Rattle.areas.proofs.Touch as touch
-use Rattle.panels.specs.Products.{plus}
+use Rattle.panels.specs.Products.{plus, Fours}
 use Rattle.panels.proofs.Floats.{dot-start, dot-step}
 use Rattle.statement.specs.Shape.{trapezoid}
 use Rattle.statement.specs.Input.{+0}
@@ -20,10 +21,6 @@ use Rattle.statement.specs.Rules.{dot}
 module _ (old v : List Float) (m q n : ℕ) where
   abbrev pub Summed : List Float → ℕ → Type 0
   Summed w k = Touched nan old w n (λ i. i) (λ i. dot (cell m v (q + i)) (cell m v q) k)
-
-  pub summed-none : ((i : ℕ) → i < n → getD old i nan ≡ +0) → Summed old 0
-  summed-none e =
-      record { size = refl; inside = λ i h. e i h ∙ dot-start (cell m v (q + i)) (cell m v q); outside = λ p h. refl }
 
   -- one product more: u is column k, `at` its row q
   one-more : (u : List Float) (at i k k′ : ℕ) (x : Float) → k ≤ q → q + i < m → at ≡ q - k → k′ ≡ k + 1 → u ≡ columnOf m v k →
@@ -39,12 +36,39 @@ module _ (old v : List Float) (m q n : ℕ) where
       there : (p : ℕ) → k ≤ p → p < m → getD u (p - k) nan ≡ cell m v p k
       there p h l = ap (λ x. getD x (p - k) nan) e ∙ cell-in m v p k h l
 
-  -- u is column k
-  pub summed-more : (w w′ u : List Float) (k : ℕ) → Summed w k → k ≤ q → n + q ≤ m → u ≡ columnOf m v k →
-      Touched nan w w′ n (λ i. i) (λ i. plus u (q - k) i (getD w i nan)) → Summed w′ (k + 1)
-  summed-more w w′ u k t h l e a =
-      touch.again nan old w n (λ i. i) (λ i. dot (cell m v (q + i)) (cell m v q) k) _ w′ _ t a
-      (λ i p. one-more u (q - k) i k (k + 1) _ h (omega arith) refl refl e (t .inside i p))
+  module _ (i : ℕ) where
+    to-1 : (u₀ : List Float) → q + i < m → u₀ ≡ columnOf m v 0 → plus u₀ q i +0 ≡ dot (cell m v (q + i)) (cell m v q) 1
+    to-1 u₀ l e₀ = one-more u₀ q i 0 1 _ (omega arith) l (omega arith) refl e₀ (dot-start (cell m v (q + i)) (cell m v q))
+
+    to-2 : (u₀ u₁ : List Float) → 2 ≤ q → q + i < m → u₀ ≡ columnOf m v 0 → u₁ ≡ columnOf m v 1 →
+        plus u₁ (q - 1) i (plus u₀ q i +0) ≡ dot (cell m v (q + i)) (cell m v q) 2
+    to-2 u₀ u₁ h l e₀ e₁ = one-more u₁ (q - 1) i 1 2 _ (omega arith) l refl refl e₁ (to-1 u₀ l e₀)
+
+    to-3 : (u₀ u₁ u₂ : List Float) → 3 ≤ q → q + i < m → u₀ ≡ columnOf m v 0 → u₁ ≡ columnOf m v 1 → u₂ ≡ columnOf m v 2 →
+        plus u₂ (q - 2) i (plus u₁ (q - 1) i (plus u₀ q i +0)) ≡ dot (cell m v (q + i)) (cell m v q) 3
+    to-3 u₀ u₁ u₂ h l e₀ e₁ e₂ = one-more u₂ (q - 2) i 2 3 _ (omega arith) l refl refl e₂ (to-2 u₀ u₁ (omega arith) l e₀ e₁)
+
+  -- the sums over no column, and over the first ones
+  pub summed-none : (w : List Float) → Touched nan old w n (λ i. i) (λ i. +0) → Summed w 0
+  summed-none w a = touch.recast nan old w n (λ i. i) (λ i. +0) _ a (λ i p. dot-start (cell m v (q + i)) (cell m v q))
+
+  module _ (w : List Float) (l : n + q ≤ m) where
+    pub summed-1 : (u₀ : List Float) → u₀ ≡ columnOf m v 0 → Touched nan old w n (λ i. i) (λ i. plus u₀ q i +0) → Summed w 1
+    summed-1 u₀ e₀ a = touch.recast nan old w n (λ i. i) _ _ a (λ i p. to-1 i u₀ (omega arith) e₀)
+
+    pub summed-2 : (u₀ u₁ : List Float) → 2 ≤ q → u₀ ≡ columnOf m v 0 → u₁ ≡ columnOf m v 1 →
+        Touched nan old w n (λ i. i) (λ i. plus u₁ (q - 1) i (plus u₀ q i +0)) → Summed w 2
+    summed-2 u₀ u₁ h e₀ e₁ a = touch.recast nan old w n (λ i. i) _ _ a (λ i p. to-2 i u₀ u₁ h (omega arith) e₀ e₁)
+
+    pub summed-3 : (u₀ u₁ u₂ : List Float) → 3 ≤ q → u₀ ≡ columnOf m v 0 → u₁ ≡ columnOf m v 1 → u₂ ≡ columnOf m v 2 →
+        Touched nan old w n (λ i. i) (λ i. plus u₂ (q - 2) i (plus u₁ (q - 1) i (plus u₀ q i +0))) → Summed w 3
+    summed-3 u₀ u₁ u₂ h e₀ e₁ e₂ a = touch.recast nan old w n (λ i. i) _ _ a (λ i p. to-3 i u₀ u₁ u₂ h (omega arith) e₀ e₁ e₂)
+
+    pub summed-4 : (u₀ u₁ u₂ u₃ : List Float) → 4 ≤ q → u₀ ≡ columnOf m v 0 → u₁ ≡ columnOf m v 1 → u₂ ≡ columnOf m v 2 → u₃ ≡ columnOf m v 3 →
+        Touched nan old w n (λ i. i) (λ i. plus u₃ (q - 3) i (plus u₂ (q - 2) i (plus u₁ (q - 1) i (plus u₀ q i +0)))) → Summed w 4
+    summed-4 u₀ u₁ u₂ u₃ h e₀ e₁ e₂ e₃ a =
+        touch.recast nan old w n (λ i. i) _ _ a
+        (λ i p. one-more u₃ (q - 3) i 3 4 _ (omega arith) (omega arith) refl refl e₃ (to-3 i u₀ u₁ u₂ (omega arith) (omega arith) e₀ e₁ e₂))
 
   -- four columns from k
   pub summed-more4 : (w w′ u₀ u₁ u₂ u₃ : List Float) (k : ℕ) → Summed w k → k + 4 ≤ q → n + q ≤ m →
@@ -63,6 +87,30 @@ module _ (old v : List Float) (m q n : ℕ) where
     where
       same : (i n : ℕ) → i ≤ n → n ≤ i → i ≡ n
       same i n p q = omega arith
+
+-- the columns that the sums read
+module _ (m q kw W : ℕ) (v : List Float) (h : (kw ≤ q) × (q < m) × (m ≤ 32768) × (trapezoid m kw ≤ length v) × (m - q ≤ W)) where
+  pub col-in : (c : ℕ) → c < kw → Within m v c
+  col-in c l = within m v c kw l (omega (arith, h .0, h .1)) (h .2) (h .3)
+
+  pub col-long : (c : ℕ) (u : List Float) → c < kw → u ≡ columnOf m v c → length u ≡ m - c
+  col-long c u l e = ap length e ∙ column-length (col-in c l)
+
+-- columns by fours
+pub fours : (r kw : ℕ) → kw % 4 ≡ r → Fours r kw
+fours r kw e = record { many = kw / 4; rest = omega (arith, e, div-add-mod' kw 4) }
+
+pub fours-none : (kw : ℕ) → kw ≡ 0 → Fours 0 kw
+fours-none kw e = record { many = 0; rest = omega arith }
+
+small : (kw : ℕ) → kw % 4 < 4
+small kw = mod-lt kw (omega arith)
+
+pub fours-left : (kw : ℕ) → (kw % 4 ≡ 1 → ⊥) → (kw % 4 ≡ 2 → ⊥) → (kw % 4 ≡ 3 → ⊥) → (kw ≡ 0 → ⊥) → (4 ≤ kw) × Fours 4 kw
+fours-left kw a b c d = (omega (arith, div-add-mod' kw 4, small kw), record { many = kw / 4 - 1; rest = omega (arith, div-add-mod' kw 4, small kw) })
+
+pub fours-next : {k kw : ℕ} → k < kw → Fours k kw → (k + 4 ≤ kw) × Fours (k + 4) kw
+fours-next h f = (omega (arith, f .rest), record { many = f .many - 1; rest = omega (arith, f .rest) })
 
 pub trap-zero : (m : ℕ) → trapezoid m 0 ≡ 0
 unfolding trapezoid

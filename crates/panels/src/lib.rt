@@ -12,7 +12,7 @@ ghost use Rattle.laws.specs.Lower.{among, lowerValue, Lower};
 ghost use Rattle.areas.specs.Touch.{Touched};
 ghost use Rattle.panel.specs.View.{cell};
 ghost use Rattle.panels.specs.Dense.{inner, Column, Dense};
-ghost use Rattle.panels.specs.Products.{plus, less};
+ghost use Rattle.panels.specs.Products.{plus, less, Fours};
 use panel::column_start;
 use panel::panel_column;
 use panel::panel_entry;
@@ -30,20 +30,66 @@ pub fn clear(w: &mut [f64], n: usize)
     }
 }
 
-// The product of the n rows from `at` of one column with the first of them is added to w.
-fn add1(w: &mut [f64], v: &[f64], at: usize, n: usize)
-    requires { ⌜ (n ≤ length (now w)) × (at + n ≤ length (now v)) × (0 < n) ⌝ }
-    ensures { λ r. ⌜ Touched nan (now (w .entry)) (now (w .exit)) n (λ i. i) (λ i. plus (now (v .entry)) at i (getD (now (w .entry)) i nan)) ⌝ }
+// w is the product of the n rows from `at` of one column with the first of them, as a sum of one.
+fn set1(w: &mut [f64], v0: &[f64], at: usize, n: usize)
+    requires { ⌜ (n ≤ length (now w)) × (0 < n) × (at + n ≤ length (now v0)) ⌝ }
+    ensures { λ r. ⌜ Touched nan (now (w .entry)) (now (w .exit)) n (λ i. i) (λ i. plus (now (v0 .entry)) at i +0) ⌝ }
 {
-    let a = v[at];
+    let a0 = v0[at];
     let mut i = 0;
     while i < n {
-        w[i] = w[i] + v[at + i] * a;
+        w[i] = 0.0 + v0[at + i] * a0;
         i += 1;
     }
 }
 
-// The same of four columns, one after the other; each starts a row below the one before it.
+// The same of two columns, one after the other; each starts a row below the one before it.
+fn set2(w: &mut [f64], v0: &[f64], v1: &[f64], at: usize, n: usize)
+    requires { ⌜ (n ≤ length (now w)) × (1 ≤ at) × (0 < n) × (at + n ≤ length (now v0)) × (at - 1 + n ≤ length (now v1)) ⌝ }
+    ensures { λ r. ⌜ Touched nan (now (w .entry)) (now (w .exit)) n (λ i. i) (λ i. plus (now (v1 .entry)) (at - 1) i (plus (now (v0 .entry)) at i +0)) ⌝ }
+{
+    let a0 = v0[at];
+    let a1 = v1[at - 1];
+    let mut i = 0;
+    while i < n {
+        w[i] = (0.0 + v0[at + i] * a0) + v1[at - 1 + i] * a1;
+        i += 1;
+    }
+}
+
+// The same of three.
+fn set3(w: &mut [f64], v0: &[f64], v1: &[f64], v2: &[f64], at: usize, n: usize)
+    requires { ⌜ (n ≤ length (now w)) × (2 ≤ at) × (0 < n) × (at + n ≤ length (now v0)) × (at - 1 + n ≤ length (now v1)) × (at - 2 + n ≤ length (now v2)) ⌝ }
+    ensures { λ r. ⌜ Touched nan (now (w .entry)) (now (w .exit)) n (λ i. i) (λ i. plus (now (v2 .entry)) (at - 2) i (plus (now (v1 .entry)) (at - 1) i (plus (now (v0 .entry)) at i +0))) ⌝ }
+{
+    let a0 = v0[at];
+    let a1 = v1[at - 1];
+    let a2 = v2[at - 2];
+    let mut i = 0;
+    while i < n {
+        w[i] = ((0.0 + v0[at + i] * a0) + v1[at - 1 + i] * a1) + v2[at - 2 + i] * a2;
+        i += 1;
+    }
+}
+
+// The same of four.
+fn set4(w: &mut [f64], v0: &[f64], v1: &[f64], v2: &[f64], v3: &[f64], at: usize, n: usize)
+    requires { ⌜ (n ≤ length (now w)) × (3 ≤ at) × (0 < n) × (at + n ≤ length (now v0)) × (at - 1 + n ≤ length (now v1)) × (at - 2 + n ≤ length (now v2)) × (at - 3 + n ≤ length (now v3)) ⌝ }
+    ensures { λ r. ⌜ Touched nan (now (w .entry)) (now (w .exit)) n (λ i. i) (λ i. plus (now (v3 .entry)) (at - 3) i (plus (now (v2 .entry)) (at - 2) i (plus (now (v1 .entry)) (at - 1) i (plus (now (v0 .entry)) at i +0)))) ⌝ }
+{
+    let a0 = v0[at];
+    let a1 = v1[at - 1];
+    let a2 = v2[at - 2];
+    let a3 = v3[at - 3];
+    let mut i = 0;
+    while i < n {
+        w[i] = (((0.0 + v0[at + i] * a0) + v1[at - 1 + i] * a1) + v2[at - 2 + i] * a2)
+            + v3[at - 3 + i] * a3;
+        i += 1;
+    }
+}
+
+// The products of four columns are added to w, one after the other.
 fn add4(w: &mut [f64], v0: &[f64], v1: &[f64], v2: &[f64], v3: &[f64], at: usize, n: usize)
     requires { ⌜ (n ≤ length (now w)) × (3 ≤ at) × (0 < n) × (at + n ≤ length (now v0)) × (at - 1 + n ≤ length (now v1)) × (at - 2 + n ≤ length (now v2)) × (at - 3 + n ≤ length (now v3)) ⌝ }
     ensures { λ r. ⌜ Touched nan (now (w .entry)) (now (w .exit)) n (λ i. i) (λ i. plus (now (v3 .entry)) (at - 3) i (plus (now (v2 .entry)) (at - 2) i (plus (now (v1 .entry)) (at - 1) i (plus (now (v0 .entry)) at i (getD (now (w .entry)) i nan))))) ⌝ }
@@ -60,15 +106,56 @@ fn add4(w: &mut [f64], v0: &[f64], v1: &[f64], v2: &[f64], v3: &[f64], at: usize
     }
 }
 
+// The sums over the first columns, so many that fours are left. How many they are.
+fn set_first(work: &mut [f64], v: &[f64], m: usize, q: usize, kw: usize) -> usize
+    requires { ⌜ (kw ≤ q) × (q < m) × (m ≤ 32768) × (trapezoid m kw ≤ length (now v)) × (m - q ≤ length (now work)) ⌝ }
+    ensures { λ r. ⌜ (Fours r kw) × (Touched nan (now (work .entry)) (now (work .exit)) (m - q) (λ i. i) (λ i. dot (cell m (now (v .entry)) (q + i)) (cell m (now (v .entry)) q) r)) ⌝ }
+{
+    let n = m - q;
+    let r = kw % 4;
+    if r == 1 {
+        set1(work, panel_column(v, m, 0), q, n);
+        return 1;
+    }
+    if r == 2 {
+        set2(work, panel_column(v, m, 0), panel_column(v, m, 1), q, n);
+        return 2;
+    }
+    if r == 3 {
+        set3(
+            work,
+            panel_column(v, m, 0),
+            panel_column(v, m, 1),
+            panel_column(v, m, 2),
+            q,
+            n,
+        );
+        return 3;
+    }
+    if kw == 0 {
+        clear(work, n);
+        return 0;
+    }
+    set4(
+        work,
+        panel_column(v, m, 0),
+        panel_column(v, m, 1),
+        panel_column(v, m, 2),
+        panel_column(v, m, 3),
+        q,
+        n,
+    );
+    4
+}
+
 // One sum for each row from q of an m-row trapezoid: over its first kw columns, each row times row q.
 pub fn sums(work: &mut [f64], v: &[f64], m: usize, q: usize, kw: usize)
     requires { ⌜ (kw ≤ q) × (q < m) × (m ≤ 32768) × (trapezoid m kw ≤ length (now v)) × (m - q ≤ length (now work)) ⌝ }
     ensures { λ r. ⌜ Touched nan (now (work .entry)) (now (work .exit)) (m - q) (λ i. i) (λ i. dot (cell m (now (v .entry)) (q + i)) (cell m (now (v .entry)) q) kw) ⌝ }
 {
     let n = m - q;
-    clear(work, n);
-    let mut k = 0;
-    while k + 4 <= kw {
+    let mut k = set_first(work, v, m, q, kw);
+    while k < kw {
         add4(
             work,
             panel_column(v, m, k),
@@ -79,10 +166,6 @@ pub fn sums(work: &mut [f64], v: &[f64], m: usize, q: usize, kw: usize)
             n,
         );
         k += 4;
-    }
-    while k < kw {
-        add1(work, panel_column(v, m, k), q - k, n);
-        k += 1;
     }
 }
 
