@@ -1,7 +1,7 @@
 -- Digits that are written: how many, which, and that reading them gives the number back; and lines put together from
 -- pieces. Assumes nothing.
 use mathlib.Core.Path.{_≡_, refl, sym, ap, _∙_}
-use mathlib.Core.Bool.{Bool, true, false, not, cond}
+use mathlib.Core.Bool.{Bool, true, false, cond}
 use mathlib.Core.List.{List, [], _∷_, _++_, append-assoc}
 use mathlib.Core.Option.{some}
 use Prim.Native.Nat.{ℕ, zero, suc, _+_, _-_, _*_, _/_, _%_, _^_, _<_, _≤_}
@@ -13,7 +13,7 @@ use lib.Dec.{T, ltb}
 use lib.Pow.{pow-add, mod-pow-add}
 use lib.ListN.{length, getD, take, drop, set, length-append, take-append-drop}
 use lib.Seq.{paste, paste-suc, take-all, take-at, drop-at, drop-drop, set-split, length-take-le}
-use lib.Ieee.{Float, nan, inf, fin, binary64, ne, eq, isNan, toBits, ofBits, fits, level, up, down}
+use lib.Ieee.{Float, nan, inf, fin, binary64, ne, eq, toBits, ofBits, fits, level, up, down}
 use lib.Ieee.Bits.{ofBits-toBits, toBits-lt}
 use Rattle.statement.specs.Lists.{joined}
 use Rattle.statement.specs.Input.{+0}
@@ -157,12 +157,6 @@ nan-differs nan h = refl
 nan-differs (inf true) h = cc
 nan-differs (inf false) h = cc
 nan-differs (fin s m e) h = let l = level-self s (m * up e * down e) in let z : _≡_ {A = Bool} false true = rw l at h in cc
-
-pub no-nan-same : (x : Float) → ne x x ≡ false → T (not (isNan x))
-unfolding ne eq isNan
-no-nan-same nan h = absurd (let z : _≡_ {A = ℕ} 0 1 = cc in omega arith)
-no-nan-same (inf s) h = tt
-no-nan-same (fin s m e) h = tt
 
 -- ---- a whole answer
 

@@ -1,12 +1,9 @@
--- The whole number nearest a root, by the test that it is; and what is no NaN. Assumes nothing.
+-- The whole number nearest a root, by the test that it is. Assumes nothing.
 use mathlib.Core.Path.{_≡_, sym, ap, _∙_}
-use mathlib.Core.Bool.{false, not}
 use Prim.Native.Nat.{ℕ, _+_, _-_, _*_, _/_, _%_, _^_, _≤_, _<_}
 use native.Mathlib.Omega.{arith}
 use native.Mathlib.Nat.{le-of-lt, mul-comm, mul-assoc, mul-mul-mul-comm, mul-le-mul, div-add-mod', mod-lt}
 use native.Mathlib.Decide.{decLt}
-use lib.Dec.{T}
-use lib.Ieee.{Float, nan, inf, fin, eq, ne, isNan}
 use Rattle.statement.specs.Root.{nearRoot}
 use Rattle.laws.proofs.RootWhole.{square-sum, near-under, near-over}
 
@@ -62,10 +59,3 @@ module _ (q : ℕ) (f : q ≤ 2 ^ 53) where
   pub passed : (v d e : ℕ) → d ≡ v - 4 * (h * h) → 4 * (h * h) ≤ v → e ≡ d * 0x100_0000 + 0x1000_0000 - h * l → h * l ≤ d * 0x100_0000 + 0x1000_0000 →
       l * l + 0x100_0000_0000_0000 < e * 0x1000_0000 + q → e * 0x1000_0000 ≤ l * l + 0x100_0000_0000_0000 + q → q ≡ nearRoot (v * 2 ^ 52)
   passed v d e i a j b lo hi = tested v q h l d e (sym (div-add-mod' q 0x800_0000)) (omega arith) (omega arith) lo hi
-
--- only a NaN differs from itself
-pub no-nan-same : (x : Float) → ne x x ≡ false → T (not (isNan x))
-unfolding ne eq isNan
-no-nan-same nan h = absurd (let z : _≡_ {A = ℕ} 0 1 = cc in omega arith)
-no-nan-same (inf s) h = tt
-no-nan-same (fin s m e) h = tt

@@ -1,5 +1,6 @@
 -- `lines::bits_of` meets its contract: only a NaN differs from itself. Assumes nothing.
-use Rattle.lines.proofs.Written.{nan-differs, no-nan-same}
+use Rattle.laws.proofs.RootCount.{no-nan-same}
+use Rattle.lines.proofs.Written.{nan-differs}
 use borrow.Author.Needs.{needs}
 use Rattle.lines.proofs.bits_of.Statement.{statement}
 use Rattle.lines.proofs.bits_of.Tie as tie

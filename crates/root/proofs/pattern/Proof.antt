@@ -1,6 +1,6 @@
 -- `root::pattern` meets its contract: only a NaN differs from itself. Assumes nothing.
 use borrow.Author.Needs.{needs}
-use Rattle.root.proofs.Tested.{no-nan-same}
+use Rattle.laws.proofs.RootCount.{no-nan-same}
 use Rattle.root.proofs.pattern.Statement.{statement}
 use Rattle.root.proofs.pattern.Tie as tie
 
