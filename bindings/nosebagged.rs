@@ -335,9 +335,11 @@ pub fn factor(m: Matrix, cap: usize, order: Order, stop: Stop, s: &mut Areas) ->
     settled(number, results)
 }
 
-/// So many right sides, n numbers each, stand in b one after another, and each becomes its solution; a refusal leaves b as it was.
+/// So many right sides, n numbers each, stand in b one after another, and each becomes its solution; a refusal leaves b as it was. Of the
+/// scratch only what solve needs is lent, n words and n floats, since it clears whatever it is lent.
 pub fn solve(record: &Record, s: &mut Areas, sides: usize, b: &mut [f64]) -> Result<(), Refusal> {
     let mut answer = [0; 3];
+    let (words, floats) = (record.n().min(s.words.len()), record.n().min(s.floats.len()));
     // Safe: as in analyse.
     let number = unsafe {
         raw::nosebagged_solve(
@@ -347,8 +349,8 @@ pub fn solve(record: &Record, s: &mut Areas, sides: usize, b: &mut [f64]) -> Res
             s.starts.as_ptr(), s.starts.len(),
             s.rows.as_ptr(), s.rows.len(),
             s.values.as_ptr(), s.values.len(),
-            s.words.as_mut_ptr(), s.words.len(),
-            s.floats.as_mut_ptr(), s.floats.len(),
+            s.words.as_mut_ptr(), words,
+            s.floats.as_mut_ptr(), floats,
             sides,
             b.as_mut_ptr(), b.len(),
             &mut answer,

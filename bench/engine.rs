@@ -1,0 +1,51 @@
+// The Rust baseline behind plain functions. bench/run.sh compiles it twice, for any x86-64 and for this machine's own vectors, so that one
+// program can time both.
+#![allow(dead_code)]
+pub mod cholesky;
+use cholesky::{Factor, Symbolic, UpperColumns};
+
+/// A matrix, its factor, and values that are ready to be factored again.
+pub struct Engine {
+    pub a: UpperColumns,
+    pub y: Symbolic,
+    pub f: Factor,
+    v: Vec<Vec<f64>>,
+}
+
+impl Engine {
+    pub fn new(n: usize, starts: &[usize], rows: &[usize], values: &[f64]) -> Engine {
+        let a = UpperColumns { n, ptr: starts.to_vec(), idx: rows.to_vec(), val: values.to_vec() };
+        let y = Symbolic::new(&a, usize::MAX).unwrap();
+        let f = Factor::new(&a, usize::MAX).unwrap();
+        let v = y.allocate().unwrap();
+        Engine { a, y, f, v }
+    }
+
+    #[inline(never)]
+    pub fn analyse(&self) -> Symbolic {
+        Symbolic::new(&self.a, usize::MAX).unwrap()
+    }
+
+    #[inline(never)]
+    pub fn made(&self) -> Factor {
+        Factor::new(&self.a, usize::MAX).unwrap()
+    }
+
+    pub fn clear(&mut self) {
+        self.v.iter_mut().for_each(|x| x.fill(0.0));
+    }
+
+    /// Into values that were cleared beforehand.
+    #[inline(never)]
+    pub fn ready(&mut self) -> Symbolic {
+        let y = self.analyse();
+        y.factor(&mut self.v, |c, j, done, base, own| c.supernode(j, done, base, own)).unwrap();
+        y
+    }
+
+    /// Each right side of b by itself.
+    #[inline(never)]
+    pub fn solve(&self, b: &mut [f64]) {
+        b.chunks_exact_mut(self.a.n).for_each(|x| self.f.solve(x).unwrap());
+    }
+}
