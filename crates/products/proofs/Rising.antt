@@ -22,6 +22,10 @@ pub trap-zero : (m : ℕ) → trapezoid m 0 ≡ 0
 unfolding trapezoid
 trap-zero m = refl
 
+-- row q of the first column
+pub at-first : (m q : ℕ) → q ≡ trapezoid m 0 + (q - 0)
+at-first m q = omega (arith, trap-zero m)
+
 -- a column's rows from q lie within the trapezoid
 pub at-in : (m k q kw at L : ℕ) → k < kw → kw ≤ q → q < m → at ≡ trapezoid m k + (q - k) → trapezoid m kw ≤ L → at + (m - q) ≤ L
 at-in m k q kw at L h h₁ h₂ e l = omega (arith, trap-suc m k, trap-mono m (suc k) kw h)
@@ -141,7 +145,7 @@ module _ (old v : List Float) (m q n : ℕ) where
 
   pub summed-1 : (w : List Float) → Touched nan old w n (λ i. i) (λ i. plus v q i +0) → Summed w 1
   summed-1 w a =
-      touch.recast nan old w n (λ i. i) _ _ a (λ i p. one-more q i 0 1 _ (omega arith) refl (omega (arith, trap-zero m)) (dot-start (cell m v (q + i)) (cell m v q)))
+      touch.recast nan old w n (λ i. i) _ _ a (λ i p. one-more q i 0 1 _ (omega arith) refl (at-first m q) (dot-start (cell m v (q + i)) (cell m v q)))
 
   pub summed-4 : (w : List Float) (L s₁ s₂ s₃ s₄ : ℕ) → 4 ≤ q → Four m 0 q L q s₁ s₂ s₃ s₄ → Touched nan old w n (λ i. i) (λ i. plus4 v q s₁ s₂ s₃ i +0) → Summed w 4
   summed-4 w L s₁ s₂ s₃ s₄ h f a =
@@ -177,14 +181,18 @@ module _ (old v : List Float) (m q n : ℕ) where
       same : (i n : ℕ) → i ≤ n → n ≤ i → i ≡ n
       same i n p q = omega arith
 
-pub begun-on : {m q kw k k′ : ℕ} {v old : List Float} (w : List Float) → Begun m q kw k v old → Summed old v m q (m - q) w k′ → k′ ≤ kw → Begun m q kw k′ v w
-begun-on w b t h =
+-- the first sums, and those of a later turn
+pub begun : {m q kw : ℕ} {v old : List Float} (w : List Float) (k : ℕ) → (kw ≤ q) × (q < m) × (m ≤ 32768) × (trapezoid m kw ≤ length v) × (m - q ≤ length old) → Summed old v m q (m - q) w k → k ≤ kw → Begun m q kw k v w
+begun w k p t h =
     record {
       upto = h;
-      above = b .above;
-      here = b .here;
-      few = b .few;
-      stored = b .stored;
-      room = omega (arith, t .size, b .room);
+      above = p .0;
+      here = p .1;
+      few = p .2;
+      stored = p .3;
+      room = omega (arith, t .size, p .4);
       sums = t .inside;
     }
+
+pub begun-on : {m q kw k k′ : ℕ} {v old : List Float} (w : List Float) → Begun m q kw k v old → Summed old v m q (m - q) w k′ → k′ ≤ kw → Begun m q kw k′ v w
+begun-on {k′ = k′} w b t h = begun w k′ (b .above, b .here, b .few, b .stored, b .room) t h

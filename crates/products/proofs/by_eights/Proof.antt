@@ -2,7 +2,6 @@
 use mathlib.Core.Path.{_≡_, refl, _∙_}
 use Prim.Native.Nat.{_+_, _-_, _≤_}
 use native.Mathlib.Omega.{arith}
-use borrow.Author.Needs.{needs}
 use Rattle.statement.specs.Shape.{trapezoid}
 use Rattle.products.proofs.Rising as rise
 use Rattle.laws.proofs.Entry.{trap-mono}

@@ -1,8 +1,7 @@
 -- `products::by_ones` meets its contract. The sums over the columns below k stand in work. Assumes nothing.
-use mathlib.Core.Path.{_≡_, refl, _∙_}
+use mathlib.Core.Path.{_≡_, refl}
 use Prim.Native.Nat.{_+_, _-_, _≤_}
 use native.Mathlib.Omega.{arith}
-use borrow.Author.Needs.{needs}
 use Rattle.statement.specs.Shape.{trapezoid}
 use Rattle.products.proofs.Rising as rise
 use Rattle.laws.proofs.Entry.{trap-mono}
