@@ -15,10 +15,10 @@ use Rattle.laws.proofs.Entry.{trap-suc, trap-mono, singly-same}
 use Rattle.areas.specs.Touch.{Touched}
 use Rattle.panel.specs.View.{cell}
 use Rattle.panels.specs.Dense.{inner, pivot, Column}
-use Rattle.panels.specs.Products.{less}
+use Rattle.products.specs.Products.{less}
 use Rattle.areas.proofs.Touch as touch
-use Rattle.panels.proofs.Floats.{singly-start, singly-step}
-use Rattle.panels.proofs.Rising.{Four}
+use Rattle.products.proofs.Floats.{singly-start, singly-step}
+use Rattle.products.proofs.Rising.{Four}
 use Rattle.statement.specs.Shape.{trapezoid}
 use Rattle.statement.specs.Root.{root}
 use Rattle.statement.specs.Rules.{dot, singly, panel, passes}
@@ -76,15 +76,15 @@ module _ (old : List Float) (m c c0 dst : ℕ) where
       (λ i p. one-less w d h₂ (t .outside) src i k (k + 1) _ h₀ h₁ p e refl (t .inside i p))
 
   -- four columns from k
-  pub singled-more4 : (w w′ : List Float) (k s₀ s₁ s₂ s₃ s₄ : ℕ) → dst ≡ trapezoid m c → Singled w k → c0 ≤ k → k + 4 ≤ c → c < m → s₀ ≡ trapezoid m k + (c - k) → Four m k c dst s₀ s₁ s₂ s₃ s₄ →
+  pub singled-more4 : (w w′ : List Float) (k s₀ s₁ s₂ s₃ s₄ : ℕ) → dst ≡ trapezoid m c → Singled w k → c0 ≤ k → k + 4 ≤ c → c < m → Four m k c dst s₀ s₁ s₂ s₃ s₄ →
       Touched nan w w′ (m - c) (λ i. dst + i) (λ i. less w s₃ i (less w s₂ i (less w s₁ i (less w s₀ i (getD w (dst + i) nan))))) → Singled w′ (k + 4)
-  singled-more4 w w′ k s₀ s₁ s₂ s₃ s₄ d t h₀ h₁ h₂ e f u =
+  singled-more4 w w′ k s₀ s₁ s₂ s₃ s₄ d t h₀ h₁ h₂ f u =
       touch.again nan old w (m - c) (λ i. dst + i) (λ i. singly (getD old (dst + i) nan) (cell m old (c + i)) (cell m old c) c0 (k - c0)) _ w′ _ t u
       (λ i p.
       one-less w d h₂ (t .outside) s₃ i (k + 3) (k + 4) _ (omega arith) (omega arith) p (f .at₃) (omega arith)
       (one-less w d h₂ (t .outside) s₂ i (k + 2) (k + 3) _ (omega arith) (omega arith) p (f .at₂) (omega arith)
       (one-less w d h₂ (t .outside) s₁ i (k + 1) (k + 2) _ (omega arith) (omega arith) p (f .at₁) (omega arith)
-      (one-less w d h₂ (t .outside) s₀ i k (k + 1) _ h₀ (omega arith) p e refl (t .inside i p)))))
+      (one-less w d h₂ (t .outside) s₀ i k (k + 1) _ h₀ (omega arith) p (f .at₀) refl (t .inside i p)))))
 
   pub singled-all : (w : List Float) (k : ℕ) → dst ≡ trapezoid m c → Singled w k → k ≤ c → c ≤ k →
       Touched nan old w (m - c) (λ i. trapezoid m c + i) (λ i. singly (getD old (trapezoid m c + i) nan) (cell m old (c + i)) (cell m old c) c0 (c - c0))

@@ -1,2 +1,1 @@
 pub mod Dense
-pub mod Products

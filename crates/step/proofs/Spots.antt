@@ -14,9 +14,9 @@ use Rattle.step.specs.Spread.{through, Spread, Rising}
 use Rattle.step.specs.Update.{posOf, spotOf, Target}
 use Rattle.areas.proofs.Touch as touch
 use Rattle.areas.proofs.Part as part
-use Rattle.panels.specs.Products.{plus}
-use Rattle.panels.proofs.Floats.{dot-one}
-use Rattle.panels.proofs.Rising.{trap-zero}
+use Rattle.products.specs.Products.{plus}
+use Rattle.products.proofs.Floats.{dot-one}
+use Rattle.products.proofs.Rising.{trap-zero}
 use Rattle.step.proofs.Runs.{shifted}
 use Rattle.statement.specs.Input.{+0}
 use Rattle.statement.specs.Shape.{trapezoid}

@@ -10,7 +10,7 @@ ghost use Rattle.statement.specs.Rules.{dot};
 ghost use Rattle.laws.specs.Lower.{lowerValue, Lower, Pattern};
 ghost use Rattle.areas.specs.Touch.{Touched};
 ghost use Rattle.panel.specs.View.{cell};
-ghost use Rattle.panels.specs.Products.{plus};
+ghost use Rattle.products.specs.Products.{plus};
 ghost use Rattle.step.specs.Answer.{Assembled, Ready, Stepped};
 ghost use Rattle.step.specs.Ready.{Rows, inWords, Listed, Offsets, Own, Took, Gathered, Fresh, Scattered, FromA};
 ghost use Rattle.step.specs.Update.{spotOf, Target, Source, Updated};
@@ -97,7 +97,7 @@ fn subtract_rising(
     let s = rows[at + (n - 1)];
     let last = place[s];
     if last - first == n - 1 {
-        panels::subtract_run(own, base + first, work, n);
+        products::subtract_run(own, base + first, work, n);
     } else {
         subtract_through(own, base, place, rows, at, work, n);
     }
@@ -146,7 +146,7 @@ fn product_rising(
     let s = rows[at + (n - 1)];
     let last = place[s];
     if last - first == n - 1 {
-        panels::subtract_product(own, base + first, src, n);
+        products::subtract_product(own, base + first, src, n);
     } else {
         product_through(own, base, place, rows, at, src, n);
     }
@@ -169,7 +169,7 @@ fn update_summed(
     requires { ⌜ Target (now place) (now rows) (length (now values)) (length (now work)) off m kr km kw kv q ⌝ }
     ensures { λ r. ⌜ Touched nan (now (values .entry)) (now (values .exit)) (km - q) (λ i. off + spotOf (now (place .entry)) (now (rows .entry)) m kr q (q + i)) (λ i. sub binary64 (getD (now (values .entry)) (off + spotOf (now (place .entry)) (now (rows .entry)) m kr q (q + i)) nan) (dot (cell km (drop kv (now (values .entry))) (q + i)) (cell km (drop kv (now (values .entry))) q) kw)) ⌝ }
 {
-    panels::sums(work, &values[kv..], km, q, kw);
+    products::sums(work, &values[kv..], km, q, kw);
     let at = kr + q;
     let r = rows[at];
     let c = place[r];
@@ -383,7 +383,7 @@ fn from_a(
     requires { ⌜ Fresh (laid n (now first) (now starts) (now rows)) j m w f (now place) (length (now own)) ⌝ }
     ensures { λ r. ⌜ FromA (laid n (now (first .entry)) (now (starts .entry)) (now (rows .entry))) j (now (astarts .entry)) (now (arows .entry)) (now (avals .entry)) (width (laid n (now (first .entry)) (now (starts .entry)) (now (rows .entry))) j) (now (own .entry)) (now (own .exit)) ⌝ }
 {
-    panels::clear(own, panel::column_start(m, w));
+    products::clear(own, panel::column_start(m, w));
     let mut c = 0;
     while c < w {
         from_a_column(
@@ -523,7 +523,7 @@ pub fn step(
     );
     let c = panels::dense(&mut values[off..], floats, a, m, w, f, astarts, arows, n);
     if c < w {
-        panels::clear(&mut values[off..], panel::column_start(m, w));
+        products::clear(&mut values[off..], panel::column_start(m, w));
         return StepAnswer::Broke(Factored(f + c));
     }
     StepAnswer::Made

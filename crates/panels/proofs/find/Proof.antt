@@ -3,7 +3,7 @@ use mathlib.Core.Path.{_≡_, refl, sym, _∙_}
 use borrow.Author.Needs.{needs}
 use Prim.Native.Nat.{_-_, _≤_}
 use native.Mathlib.Omega.{arith}
-use Rattle.panels.proofs.Floats.{zero-is}
+use Rattle.products.proofs.Floats.{zero-is}
 use Rattle.panels.proofs.Finds as finds
 use Rattle.panels.proofs.find.Statement.{statement}
 use Rattle.panels.proofs.find.Tie as tie

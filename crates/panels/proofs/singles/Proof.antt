@@ -1,15 +1,16 @@
 -- `panels::singles` meets its contract. Columns from c0 below k are subtracted singly; the second loop goes on from what the first left. Assumes nothing.
 use mathlib.Core.List.{List}
-use mathlib.Core.Path.{_≡_, refl, _∙_}
-use Prim.Native.Nat.{_+_, _-_, _≤_}
+use mathlib.Core.Path.{_≡_, refl, sym, _∙_}
+use Prim.Native.Nat.{_+_, _-_, _<_, _≤_}
 use native.Mathlib.Omega.{arith}
 use lib.ListN.{length}
+use native.Mathlib.Nat.{le-refl, le-of-eq}
 use lib.Ieee.{Float}
 use borrow.Author.Needs.{needs}
 use Rattle.statement.specs.Shape.{trapezoid}
 use Rattle.laws.proofs.Entry.{trap-mono}
 use Rattle.panels.proofs.Columns as cols
-use Rattle.panels.proofs.Rising as rise
+use Rattle.products.proofs.Rising as rise
 use Rattle.panels.proofs.singles.Statement.{statement}
 use Rattle.panels.proofs.singles.Tie as tie
 
@@ -52,53 +53,50 @@ loop-holds c =
 add-loop : tie.Need-add-loop Inv-loop μ-loop Inv-loop2 μ-loop2
 add-loop c = omega arith
 
+sub-d : tie.Need-sub-d Inv-loop μ-loop Inv-loop2 μ-loop2
+sub-d c = omega arith
+
 add-s1 : tie.Need-add-s1 Inv-loop μ-loop Inv-loop2 μ-loop2
 add-s1 c =
+    let column-start′ = c .before .before .before .column-start in
     let args′ = c .before .before .before .before .before .args in
     let loop′ = c .before .loop in
+    let pre′ = c .before .before .before .before .before .pre in
     let loop-test′ = c .loop-test in
-    let column-start′ = c .before .before .before .column-start in
-    let f = rise.four (args′ .m) (loop′ .k) (args′ .c) _ (loop′ .src) _ _ _ _ (loop-test′ .taken) (omega arith) (column-start′ .ensures) (loop′ .inv .2) refl refl refl refl in omega arith
+    let b : column-start′ .result < 9223372036854775808 = omega (arith, column-start′ .ensures) in let f = rise.fours (args′ .m) (loop′ .k) (args′ .c) (args′ .c) _ (loop′ .src) _ _ _ _ (le-refl (args′ .c)) (pre′ .1) (le-of-eq (sym (column-start′ .ensures))) (loop′ .inv .2) refl refl refl refl (loop-test′ .taken) in rise.wide _ (args′ .m) (loop′ .k) _ _ (f .in₀) b (pre′ .2)
 
 sub-s1 : tie.Need-sub-s1 Inv-loop μ-loop Inv-loop2 μ-loop2
-sub-s1 c = omega arith
-
-sub-s1-2 : tie.Need-sub-s1-2 Inv-loop μ-loop Inv-loop2 μ-loop2
-sub-s1-2 c =
-    let loop′ = c .before .loop in
+sub-s1 c =
     let args′ = c .before .before .before .before .before .args in
-    rise.enough (loop′ .src) (args′ .m) (loop′ .k) 1 (omega arith)
+    let loop′ = c .before .loop in
+    rise.enough _ (args′ .m) (loop′ .k) 1 (omega arith)
 
 add-s2 : tie.Need-add-s2 Inv-loop μ-loop Inv-loop2 μ-loop2
 add-s2 c =
+    let column-start′ = c .before .before .before .column-start in
     let args′ = c .before .before .before .before .before .args in
     let loop′ = c .before .loop in
+    let pre′ = c .before .before .before .before .before .pre in
     let loop-test′ = c .loop-test in
-    let column-start′ = c .before .before .before .column-start in
-    let f = rise.four (args′ .m) (loop′ .k) (args′ .c) _ (loop′ .src) _ _ _ _ (loop-test′ .taken) (omega arith) (column-start′ .ensures) (loop′ .inv .2) refl refl refl refl in omega arith
+    let b : column-start′ .result < 9223372036854775808 = omega (arith, column-start′ .ensures) in let f = rise.fours (args′ .m) (loop′ .k) (args′ .c) (args′ .c) _ (loop′ .src) _ _ _ _ (le-refl (args′ .c)) (pre′ .1) (le-of-eq (sym (column-start′ .ensures))) (loop′ .inv .2) refl refl refl refl (loop-test′ .taken) in rise.wide _ (args′ .m) (loop′ .k) _ _ (f .in₁) b (pre′ .2)
 
 sub-s2 : tie.Need-sub-s2 Inv-loop μ-loop Inv-loop2 μ-loop2
-sub-s2 c = omega arith
-
-sub-s2-2 : tie.Need-sub-s2-2 Inv-loop μ-loop Inv-loop2 μ-loop2
-sub-s2-2 c =
+sub-s2 c =
     let args′ = c .before .before .before .before .before .args in
     let loop′ = c .before .loop in
     rise.enough _ (args′ .m) (loop′ .k) 2 (omega arith)
 
 add-s3 : tie.Need-add-s3 Inv-loop μ-loop Inv-loop2 μ-loop2
 add-s3 c =
+    let column-start′ = c .before .before .before .column-start in
     let args′ = c .before .before .before .before .before .args in
     let loop′ = c .before .loop in
+    let pre′ = c .before .before .before .before .before .pre in
     let loop-test′ = c .loop-test in
-    let column-start′ = c .before .before .before .column-start in
-    let f = rise.four (args′ .m) (loop′ .k) (args′ .c) _ (loop′ .src) _ _ _ _ (loop-test′ .taken) (omega arith) (column-start′ .ensures) (loop′ .inv .2) refl refl refl refl in omega arith
+    let b : column-start′ .result < 9223372036854775808 = omega (arith, column-start′ .ensures) in let f = rise.fours (args′ .m) (loop′ .k) (args′ .c) (args′ .c) _ (loop′ .src) _ _ _ _ (le-refl (args′ .c)) (pre′ .1) (le-of-eq (sym (column-start′ .ensures))) (loop′ .inv .2) refl refl refl refl (loop-test′ .taken) in rise.wide _ (args′ .m) (loop′ .k) _ _ (f .in₂) b (pre′ .2)
 
 sub-s3 : tie.Need-sub-s3 Inv-loop μ-loop Inv-loop2 μ-loop2
-sub-s3 c = omega arith
-
-sub-s3-2 : tie.Need-sub-s3-2 Inv-loop μ-loop Inv-loop2 μ-loop2
-sub-s3-2 c =
+sub-s3 c =
     let args′ = c .before .before .before .before .before .args in
     let loop′ = c .before .loop in
     rise.enough _ (args′ .m) (loop′ .k) 3 (omega arith)
@@ -107,23 +105,22 @@ sub4-requires : tie.Need-sub4-requires Inv-loop μ-loop Inv-loop2 μ-loop2
 sub4-requires c κs =
     let args′ = c .before .before .before .before .before .before .args in
     let loop′ = c .before .before .loop in
-    let loop-test′ = c .before .loop-test in
+    let pre′ = c .before .before .before .before .before .before .pre in
     let column-start′ = c .before .before .before .before .column-start in
-    rise.four-in _ (rise.four (args′ .m) (loop′ .k) (args′ .c) _ (loop′ .src) _ _ _ _ (loop-test′ .taken) (omega arith) (column-start′ .ensures) (loop′ .inv .2) refl refl refl refl) (omega arith) (omega (arith, column-start′ .ensures, loop′ .inv .3 .size))
+    let loop-test′ = c .before .loop-test in
+    let f = rise.fours (args′ .m) (loop′ .k) (args′ .c) (args′ .c) _ (loop′ .src) _ _ _ _ (le-refl (args′ .c)) (pre′ .1) (le-of-eq (sym (column-start′ .ensures))) (loop′ .inv .2) refl refl refl refl (loop-test′ .taken) in (rise.some _ _ (pre′ .1), f .in₀, f .in₁, f .in₂, f .in₃, omega (arith, column-start′ .ensures, loop′ .inv .3 .size))
 
 add-src-2 : tie.Need-add-src-2 Inv-loop μ-loop Inv-loop2 μ-loop2
 add-src-2 c =
+    let column-start′ = c .before .before .before .before .before .before .before .column-start in
     let args′ = c .before .before .before .before .before .before .before .before .before .args in
     let loop′ = c .before .before .before .before .before .loop in
+    let pre′ = c .before .before .before .before .before .before .before .before .before .pre in
     let loop-test′ = c .before .before .before .before .loop-test in
-    let column-start′ = c .before .before .before .before .before .before .before .column-start in
-    let f = rise.four (args′ .m) (loop′ .k) (args′ .c) _ (loop′ .src) _ _ _ _ (loop-test′ .taken) (omega arith) (column-start′ .ensures) (loop′ .inv .2) refl refl refl refl in omega arith
+    let b : column-start′ .result < 9223372036854775808 = omega (arith, column-start′ .ensures) in let f = rise.fours (args′ .m) (loop′ .k) (args′ .c) (args′ .c) _ (loop′ .src) _ _ _ _ (le-refl (args′ .c)) (pre′ .1) (le-of-eq (sym (column-start′ .ensures))) (loop′ .inv .2) refl refl refl refl (loop-test′ .taken) in rise.wide _ (args′ .m) (loop′ .k) _ _ (f .in₃) b (pre′ .2)
 
 sub-src-2 : tie.Need-sub-src-2 Inv-loop μ-loop Inv-loop2 μ-loop2
-sub-src-2 c = omega arith
-
-sub-src-3 : tie.Need-sub-src-3 Inv-loop μ-loop Inv-loop2 μ-loop2
-sub-src-3 c =
+sub-src-2 c =
     let args′ = c .before .before .before .before .before .before .before .before .before .args in
     let loop′ = c .before .before .before .before .before .loop in
     rise.enough _ (args′ .m) (loop′ .k) 4 (omega arith)
@@ -138,11 +135,11 @@ loop-again : tie.Need-loop-again Inv-loop μ-loop Inv-loop2 μ-loop2
 loop-again c =
     let args′ = c .before .before .before .before .before .before .before .before .before .args in
     let loop′ = c .before .before .before .before .before .loop in
-    let loop-test′ = c .before .before .before .before .loop-test in
+    let pre′ = c .before .before .before .before .before .before .before .before .before .pre in
     let column-start′ = c .before .before .before .before .before .before .before .column-start in
+    let loop-test′ = c .before .before .before .before .loop-test in
     let sub4′ = c .before .before .sub4 in
-    let f = rise.four (args′ .m) (loop′ .k) (args′ .c) _ (loop′ .src) _ _ _ _ (loop-test′ .taken) (omega arith) (column-start′ .ensures) (loop′ .inv .2) refl refl refl refl in
-    (omega arith, omega arith, f .at₄, cols.singled-more4 _ (args′ .m) (args′ .c) (args′ .c0) _ _ _ (loop′ .k) (loop′ .src) _ _ _ _ (column-start′ .ensures) (loop′ .inv .3) (omega arith) (omega arith) (omega arith) (loop′ .inv .2) f (sub4′ .ensures))
+    let f = rise.fours (args′ .m) (loop′ .k) (args′ .c) (args′ .c) _ (loop′ .src) _ _ _ _ (le-refl (args′ .c)) (pre′ .1) (le-of-eq (sym (column-start′ .ensures))) (loop′ .inv .2) refl refl refl refl (loop-test′ .taken) in (omega arith, loop-test′ .taken, f .at₄, cols.singled-more4 _ (args′ .m) (args′ .c) (args′ .c0) _ _ _ (loop′ .k) (loop′ .src) _ _ _ _ (column-start′ .ensures) (loop′ .inv .3) (loop′ .inv .0) (loop-test′ .taken) (pre′ .1) f (sub4′ .ensures))
 
 loop2-holds : tie.Need-loop2-holds Inv-loop μ-loop Inv-loop2 μ-loop2
 loop2-holds c =
@@ -151,12 +148,13 @@ loop2-holds c =
 
 sub1-requires : tie.Need-sub1-requires Inv-loop μ-loop Inv-loop2 μ-loop2
 sub1-requires c κs =
+    let pre′ = c .before .before .before .before .before .before .before .before .pre in
     let args′ = c .before .before .before .before .before .before .before .before .args in
     let loop2′ = c .before .before .loop2 in
-    let loop2-test′ = c .before .loop2-test in
     let column-start′ = c .before .before .before .before .before .before .column-start in
+    let loop2-test′ = c .before .loop2-test in
     let loop′ = c .before .before .before .before .loop in
-    (omega arith, rise.at-in (args′ .m) (loop2′ .k) (args′ .c) (args′ .c) (loop2′ .src) _ (loop2-test′ .taken) (omega arith) (omega arith) (loop2′ .inv .2) (omega (arith, column-start′ .ensures)), omega (arith, column-start′ .ensures, loop2′ .inv .3, loop′ .inv .3 .size))
+    (rise.some _ _ (pre′ .1), rise.at-in (args′ .m) (loop2′ .k) (args′ .c) (args′ .c) (loop2′ .src) (column-start′ .result) (loop2-test′ .taken) (le-refl (args′ .c)) (pre′ .1) (loop2′ .inv .2) (le-of-eq (sym (column-start′ .ensures))), omega (arith, column-start′ .ensures, loop2′ .inv .3, loop′ .inv .3 .size))
 
 add-src-3 : tie.Need-add-src-3 Inv-loop μ-loop Inv-loop2 μ-loop2
 add-src-3 c =
@@ -164,13 +162,14 @@ add-src-3 c =
     let loop2′ = c .before .before .before .before .before .loop2 in
     let column-start′ = c .before .before .before .before .before .before .before .before .before .column-start in
     let loop2-test′ = c .before .before .before .before .loop2-test in
-    omega (arith, rise.at-in (args′ .m) (loop2′ .k) (args′ .c) (args′ .c) (loop2′ .src) (column-start′ .result) (loop2-test′ .taken) (omega arith) (omega arith) (loop2′ .inv .2) (omega (arith, column-start′ .ensures)), column-start′ .ensures)
+    let pre′ = c .before .before .before .before .before .before .before .before .before .before .before .pre in
+    omega (arith, rise.at-in (args′ .m) (loop2′ .k) (args′ .c) (args′ .c) (loop2′ .src) (column-start′ .result) (loop2-test′ .taken) (le-refl (args′ .c)) (pre′ .1) (loop2′ .inv .2) (le-of-eq (sym (column-start′ .ensures))), column-start′ .ensures)
+
+sub-src-3 : tie.Need-sub-src-3 Inv-loop μ-loop Inv-loop2 μ-loop2
+sub-src-3 c = omega arith
 
 sub-src-4 : tie.Need-sub-src-4 Inv-loop μ-loop Inv-loop2 μ-loop2
 sub-src-4 c = omega arith
-
-sub-src-5 : tie.Need-sub-src-5 Inv-loop μ-loop Inv-loop2 μ-loop2
-sub-src-5 c = omega arith
 
 add-k-2 : tie.Need-add-k-2 Inv-loop μ-loop Inv-loop2 μ-loop2
 add-k-2 c = omega arith
@@ -183,11 +182,12 @@ loop2-again c =
     let args′ = c .before .before .before .before .before .before .before .before .before .before .before .args in
     let loop2′ = c .before .before .before .before .before .loop2 in
     let loop2-test′ = c .before .before .before .before .loop2-test in
+    let pre′ = c .before .before .before .before .before .before .before .before .before .before .before .pre in
     let sub1′ = c .before .before .sub1 in
     let column-start′ = c .before .before .before .before .before .before .before .before .before .column-start in (
       omega arith,
       omega arith,
-      rise.at-next (args′ .m) (loop2′ .k) _ (args′ .c) _ _ (loop2-test′ .taken) (omega arith) refl (omega arith) (loop2′ .inv .2),
+      rise.at-next (args′ .m) (loop2′ .k) _ (args′ .c) _ _ (loop2-test′ .taken) (pre′ .1) refl (omega arith) (loop2′ .inv .2),
       sub1′ .ensures .size ∙ loop2′ .inv .3,
       λ old t. cols.singled-more old (args′ .m) (args′ .c) (args′ .c0) _ _ _ (loop2′ .k) (loop2′ .src) (column-start′ .ensures) (loop2′ .inv .4 old t) (omega arith) (omega arith) (omega arith) (loop2′ .inv .2) (sub1′ .ensures),
     )
@@ -221,27 +221,24 @@ singles-spec =
     sub-src
     loop-holds
     add-loop
+    sub-d
     add-s1
     sub-s1
-    sub-s1-2
     add-s2
     sub-s2
-    sub-s2-2
     add-s3
     sub-s3
-    sub-s3-2
     sub4-requires
     add-src-2
     sub-src-2
-    sub-src-3
     add-k
     loop-less
     loop-again
     loop2-holds
     sub1-requires
     add-src-3
+    sub-src-3
     sub-src-4
-    sub-src-5
     add-k-2
     loop2-less
     loop2-again

@@ -2,7 +2,7 @@
 use native.Mathlib.Omega.{arith}
 use lib.Ieee.{binary64, sub}
 use borrow.Author.Needs.{needs}
-use Rattle.panels.specs.Products.{plus}
+use Rattle.products.specs.Products.{plus}
 use Rattle.statement.specs.Input.{+0}
 use Rattle.step.proofs.Runs as runs
 use Rattle.step.proofs.product_rising.Statement.{statement}

@@ -5,8 +5,8 @@ use native.Mathlib.Omega.{arith}
 use lib.Ieee.{nan, binary64, sub}
 use lib.ListN.{getD}
 use borrow.Author.Needs.{needs}
-use Rattle.panels.proofs.Floats.{sub-sum}
-use Rattle.panels.specs.Products.{plus}
+use Rattle.products.proofs.Floats.{sub-sum}
+use Rattle.products.specs.Products.{plus}
 use Rattle.areas.proofs.Touch as touch
 use Rattle.areas.specs.Touch.{Touched}
 use Rattle.statement.specs.Input.{+0}

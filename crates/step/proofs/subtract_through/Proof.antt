@@ -7,7 +7,7 @@ use lib.ListN.{getD}
 use lib.Ieee.{nan, binary64, sub}
 use Rattle.areas.specs.Touch.{Touched}
 use Rattle.areas.proofs.Touch as touch
-use Rattle.panels.proofs.Floats.{sub-left}
+use Rattle.products.proofs.Floats.{sub-left}
 use Rattle.step.specs.Spread.{through}
 use Rattle.step.proofs.subtract_through.Statement.{statement}
 use Rattle.step.proofs.subtract_through.Tie as tie

@@ -1,0 +1,80 @@
+-- `products::set1` meets its contract. Touched up to i by a sum of one. Assumes nothing.
+use mathlib.Core.Path.{refl}
+use Prim.Native.Nat.{_-_, _≤_}
+use native.Mathlib.Omega.{arith}
+use lib.Ieee.{nan}
+use borrow.Author.Needs.{needs}
+use Rattle.statement.specs.Input.{+0}
+use Rattle.areas.proofs.Touch as touch
+use Rattle.areas.specs.Touch.{Touched}
+use Rattle.products.specs.Products.{plus}
+use Rattle.products.proofs.Floats.{zero-is, add-left}
+use Rattle.products.proofs.set1.Statement.{statement}
+use Rattle.products.proofs.set1.Tie as tie
+
+abbrev Inv-loop : tie.InvT-loop
+Inv-loop w₀ v s0 n a0 i₀ w i = (i ≤ n) × Touched nan w₀ w i (λ i. i) (λ i. plus v s0 i +0)
+
+abbrev μ-loop : tie.MeasureT-loop
+μ-loop w₀ v s0 n a0 i₀ w i = n - i
+
+mul-a0 : tie.Need-mul-a0 Inv-loop μ-loop
+mul-a0 c = search needs
+
+shared-slice-read-a0 : tie.Need-shared-slice-read-a0 Inv-loop μ-loop
+shared-slice-read-a0 c = search needs
+
+loop-holds : tie.Need-loop-holds Inv-loop μ-loop
+loop-holds c = (omega arith, touch.none nan _ _ _)
+
+add-w : tie.Need-add-w Inv-loop μ-loop
+add-w c = search needs
+
+mul-w : tie.Need-mul-w Inv-loop μ-loop
+mul-w c = search needs
+
+shared-slice-read-w : tie.Need-shared-slice-read-w Inv-loop μ-loop
+shared-slice-read-w c = search needs
+
+mul-w-2 : tie.Need-mul-w-2 Inv-loop μ-loop
+mul-w-2 c = search needs
+
+slice-write-w : tie.Need-slice-write-w Inv-loop μ-loop
+slice-write-w c = search needs
+
+add-i : tie.Need-add-i Inv-loop μ-loop
+add-i c = search needs
+
+loop-less : tie.Need-loop-less Inv-loop μ-loop
+loop-less c = search needs
+
+loop-again : tie.Need-loop-again Inv-loop μ-loop
+loop-again c =
+    let loop′ = c .before .before .loop in
+    (omega arith, touch.more nan _ _ _ _ _ _ _ (loop′ .inv .1) refl (omega arith) (λ k h e. omega arith) (add-left _ zero-is))
+
+same-length : tie.Need-same-length Inv-loop μ-loop
+same-length c = search needs
+
+returns : tie.Need-returns Inv-loop μ-loop
+returns c = touch.end nan _ _ _ _ _ _ (c .before .loop .inv .1) (omega arith) (omega arith)
+
+pub set1-spec : {M : Type 1} → statement M
+set1-spec =
+    tie.close
+    (tie.spec
+    Inv-loop
+    μ-loop
+    mul-a0
+    shared-slice-read-a0
+    loop-holds
+    add-w
+    mul-w
+    shared-slice-read-w
+    mul-w-2
+    slice-write-w
+    add-i
+    loop-less
+    loop-again
+    same-length
+    returns)
