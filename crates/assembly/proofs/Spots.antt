@@ -28,8 +28,15 @@ trap-ge m zero h = omega arith
 trap-ge m (suc c) h = omega (arith, trap-zero m, trap-suc m 0, trap-mono m 1 (suc c) (omega arith))
 
 module _ (place rows : List ℕ) (vlen wlen off m kr km kw kv q : ℕ) (t : Target place rows vlen wlen off m kr km kw kv q) where
-  P : ℕ → ℕ
-  P r = posOf place rows kr r
+  -- the i-th from q on, of K's rows
+  row : (i : ℕ) → getD rows (kr + q + i) 0 ≡ getD rows (kr + (q + i)) 0
+  row i = ap (λ k. getD rows k 0) assoc
+    where
+      assoc : kr + q + i ≡ kr + (q + i)
+      assoc = omega arith
+
+  pos : (i : ℕ) → posOf place rows (kr + q) i ≡ posOf place rows kr (q + i)
+  pos i = ap (λ r. getD place r 0) (row i)
 
   low : (i : ℕ) → i < km - q → posOf place rows kr q ≤ posOf place rows kr (q + i)
   low i h = go (ℕ-discrete i 0)
@@ -49,36 +56,23 @@ module _ (place rows : List ℕ) (vlen wlen off m kr km kw kv q : ℕ) (t : Targ
     base = from - posOf place rows kr q
 
     there : (i : ℕ) → i < km - q → through place rows base (kr + q) i ≡ spotOf place rows m kr q (q + i)
-    there i h = ap (λ k. base + getD place (getD rows k 0) 0) (assoc kr q i) ∙ sum
-      where
-        assoc : (a b c : ℕ) → a + b + c ≡ a + (b + c)
-        assoc a b c = omega arith
-
-        sum : base + posOf place rows kr (q + i) ≡ spotOf place rows m kr q (q + i)
-        sum = omega (arith, low i h, start-ge, e)
-
-    spread : (L : ℕ) → L ≡ vlen - off → Spread place rows base (kr + q) (km - q) L
-    spread L l =
-        record {
-          listed = omega (arith, t .listed, t .here);
-          known = λ i h. subst (λ k. getD rows k 0 < length place) (assoc kr q i) (t .known (q + i) (omega arith));
-          within = λ i h. omega (arith, there i h, low i h, t .inside (q + i) (omega arith) (omega arith), t .column);
-          apart = λ i k h g s. omega (arith, there i h, there k (omega arith), low i h, low k (omega arith), t .rise (q + k) (q + i) (omega arith) (omega arith) (omega arith));
-        }
-      where
-        assoc : (a b c : ℕ) → a + (b + c) ≡ a + b + c
-        assoc a b c = omega arith
+    there i h = omega (arith, pos i, low i h, start-ge, e)
 
     pub rising : (L : ℕ) → L ≡ vlen - off → Rising place rows base (kr + q) (km - q) L
     rising L l =
         record {
-          spread = spread L l;
-          some = omega (arith, t .here);
-          rise = λ i k g h. omega (arith, there i h, there k (omega arith), low i h, low k (omega arith), t .rise (q + k) (q + i) (omega arith) (omega arith) (omega arith));
+          rises =
+              record {
+                some = omega (arith, t .here);
+                listed = omega (arith, t .listed, t .here);
+                known = λ i h. omega (arith, row i, t .known (q + i) (omega arith));
+                rise = λ i k g h. omega (arith, pos i, pos k, t .rise (q + k) (q + i) (omega arith) (omega arith) (omega arith));
+              };
+          within = λ i h. omega (arith, there i h, low i h, t .inside (q + i) (omega arith) (omega arith), t .column);
         }
 
     pub rising-whole : Rising place rows (off + base) (kr + q) (km - q) vlen
-    rising-whole = shifted place rows base (kr + q) (km - q) (vlen - off) (rising (vlen - off) refl) off vlen (omega (arith, t .column))
+    rising-whole = shifted (rising (vlen - off) refl) off vlen (omega (arith, t .column))
 
     -- of one column; what it reads ends before J's stretch
     pub before-base : (kw ≡ 1) → kv + q + (km - q) ≤ off + base
@@ -121,9 +115,9 @@ module _ (place rows : List ℕ) (vlen wlen off m kr km kw kv q : ℕ) (t : Targ
         ap₂ (sub binary64) (part.mid-at nan v off (through place rows base (kr + q) i) ∙ ap (λ x. getD v (off + x) nan) (there i h))
         (s i h ∙ ap (λ l. dot (cell km l (q + i)) (cell km l q) kw) (part.mid-is nan v kv)))
 
--- an earlier supernode of one column
-pub single : {place rows : List ℕ} {vlen wlen off m kr km kw kv q : ℕ} → kw ≡ 1 → Target place rows vlen wlen off m kr km kw kv q → Target place rows vlen km off m kr km 1 kv q
-single {km = km} e t =
+-- what an earlier supernode of some columns gives, its first column gives alone
+pub single : {place rows : List ℕ} {vlen wlen off m kr km kw kv q : ℕ} → 0 < kw → Target place rows vlen wlen off m kr km kw kv q → Target place rows vlen km off m kr km 1 kv q
+single {km = km} {kw = kw} some t =
     record {
       few = t .few;
       fewK = t .fewK;
@@ -131,7 +125,7 @@ single {km = km} e t =
       here = t .here;
       listed = t .listed;
       room = omega arith;
-      stretch = omega (arith, t .stretch, ap (trapezoid km) e);
+      stretch = omega (arith, t .stretch, trap-mono km 1 kw some);
       known = t .known;
       rise = t .rise;
       inside = t .inside;

@@ -1,4 +1,5 @@
 -- `assembly::update_column` meets its contract, by the width. Assumes nothing.
+use native.Mathlib.Omega.{arith}
 use borrow.Author.Needs.{needs}
 use Rattle.assembly.proofs.Spots as spots
 use Rattle.assembly.proofs.update_column.Statement.{statement}
@@ -8,7 +9,7 @@ update-single-requires : tie.Need-update-single-requires
 update-single-requires c κs =
     let if1′ = c .before .if1 in
     let pre′ = c .before .before .before .before .before .before .pre in
-    spots.single (if1′ .taken) pre′
+    spots.single (omega (arith, if1′ .taken)) pre′
 
 update-summed-requires : tie.Need-update-summed-requires
 update-summed-requires c κs =
@@ -23,7 +24,7 @@ returns c =
     let args′ = c .before .before .before .before .before .before .before .before .before .args in
     let if1′ = c .before .before .before .before .if1 in
     let update-single′ = c .before .before .update-single in
-    spots.as-single (args′ .place .now) (args′ .rows .now) (args′ .off) (args′ .m) (args′ .kr) (args′ .km) (args′ .kv) (args′ .q) (args′ .kw) (if1′ .taken) _ _ (update-single′ .ensures)
+    spots.as-single (args′ .place .now) (args′ .rows .now) (args′ .off) (args′ .m) (args′ .kr) (args′ .km) (args′ .kv) (args′ .q) (args′ .kw) (omega (arith, if1′ .taken)) _ _ (update-single′ .ensures)
 
 same-length-2 : tie.Need-same-length-2
 same-length-2 c = search needs
