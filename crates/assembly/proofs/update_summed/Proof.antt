@@ -8,6 +8,13 @@ use Rattle.assembly.proofs.Spots as spots
 use Rattle.assembly.proofs.update_summed.Statement.{statement}
 use Rattle.assembly.proofs.update_summed.Tie as tie
 
+-- where the sums are made, from where the column's row is read; and where it all begins
+abbrev summed : tie.After-shared-slice-known3 → tie.After-sums
+summed c = c .before .before .before
+
+abbrev entry : tie.After-sums → tie.Start
+entry c = c .before .before .before .before .before .before .before .before
+
 mul-sums : tie.Need-mul-sums
 mul-sums c = search needs
 
@@ -33,16 +40,16 @@ shared-slice-read-r : tie.Need-shared-slice-read-r
 shared-slice-read-r c = search needs
 
 mul-c : tie.Need-mul-c
-mul-c c = omega (arith, c .before .before .before .before .before .before .before .before .before .before .before .pre .known (c .before .before .before .before .before .before .before .before .before .before .before .args .q) (c .before .before .before .before .before .before .before .before .before .before .before .pre .here))
+mul-c c = let s = entry (summed c) in omega (arith, s .pre .known (s .args .q) (s .pre .here))
 
 shared-slice-read-c : tie.Need-shared-slice-read-c
-shared-slice-read-c c = c .before .before .before .before .before .before .before .before .before .before .before .before .pre .known (c .before .before .before .before .before .before .before .before .before .before .before .before .args .q) (c .before .before .before .before .before .before .before .before .before .before .before .before .pre .here)
+shared-slice-read-c c = let s = entry (summed (c .before)) in s .pre .known (s .args .q) (s .pre .here)
 
 column-start-requires : tie.Need-column-start-requires
-column-start-requires c κs = omega (arith, c .before .before .before .before .before .before .before .before .before .before .before .before .pre .inside (c .before .before .before .before .before .before .before .before .before .before .before .before .args .q) (omega arith) (c .before .before .before .before .before .before .before .before .before .before .before .before .pre .here))
+column-start-requires c κs = let s = entry (summed (c .before)) in omega (arith, s .pre .inside (s .args .q) (omega arith) (s .pre .here))
 
 sub-base : tie.Need-sub-base
-sub-base c = omega (arith, c .column-start .ensures, spots.start-ge _ _ _ _ _ _ _ _ _ _ _ (c .before .before .before .before .before .before .before .before .before .before .before .before .before .pre))
+sub-base c = omega (arith, c .column-start .ensures, spots.start-ge _ _ _ _ _ _ _ _ _ _ _ (entry (summed (c .before .before)) .pre))
 
 mul-subtract-rising : tie.Need-mul-subtract-rising
 mul-subtract-rising c = search needs
@@ -60,7 +67,11 @@ sub-subtract-rising-2 : tie.Need-sub-subtract-rising-2
 sub-subtract-rising-2 c = search needs
 
 subtract-rising-requires : tie.Need-subtract-rising-requires
-subtract-rising-requires c κs = (spots.rising _ _ _ _ _ _ _ _ _ _ _ (c .before .before .before .before .before .before .before .before .before .before .before .before .before .before .before .pre) _ (c .before .before .column-start .ensures) _ (part.mid-length nan (c .before .before .before .before .before .before .before .before .before .before .before .before .before .before .before .args .values .now) (c .before .before .before .before .before .before .before .before .before .before .before .before .before .before .before .args .off)), omega (arith, c .before .before .before .before .before .before .before .sums .ensures .size, c .before .before .before .before .before .before .before .before .before .before .before .before .before .before .before .pre .room))
+subtract-rising-requires c κs =
+    let b = c .before .before in
+    let d = summed (b .before .before) in
+    let s = entry d in
+    (spots.rising _ _ _ _ _ _ _ _ _ _ _ (s .pre) _ (b .column-start .ensures) _ (part.mid-length nan (s .args .values .now) (s .args .off)), omega (arith, d .sums .ensures .size, s .pre .room))
 
 same-length : tie.Need-same-length
 same-length c = search needs
@@ -69,7 +80,10 @@ same-length-2 : tie.Need-same-length-2
 same-length-2 c = search needs
 
 returns : tie.Need-returns
-returns c = spots.one-column _ _ _ _ _ _ _ _ _ _ _ (c .before .before .before .before .before .before .before .before .before .before .before .before .before .before .before .before .before .before .pre) _ (c .before .before .before .before .before .column-start .ensures) _ _ (c .before .before .before .before .before .before .before .before .before .before .sums .last .0) refl (c .before .before .subtract-rising .ensures) (c .before .before .before .before .before .before .before .before .before .before .sums .ensures .inside)
+returns c =
+    let b = c .before .before .before .before .before in
+    let d = summed (b .before .before) in
+    spots.one-column _ _ _ _ _ _ _ _ _ _ _ (entry d .pre) _ (b .column-start .ensures) _ _ (d .sums .last .0) refl (c .before .before .subtract-rising .ensures) (d .sums .ensures .inside)
 
 pub update-summed-spec : {M : Type 1} → statement M
 update-summed-spec =

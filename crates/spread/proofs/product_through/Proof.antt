@@ -1,16 +1,16 @@
 -- `spread::product_through` meets its contract. Touched up to i, each at its own place; the source lies before all of them. Assumes nothing.
-use mathlib.Core.Path.{refl}
+use borrow.Author.Needs.{needs}
 use Prim.Native.Nat.{_+_, _-_, _≤_}
 use native.Mathlib.Omega.{arith}
-use lib.Ieee.{nan, binary64, sub}
 use lib.ListN.{getD}
-use borrow.Author.Needs.{needs}
-use Rattle.panels.proofs.Floats.{sub-sum}
-use Rattle.panels.specs.Products.{plus}
-use Rattle.areas.proofs.Touch as touch
-use Rattle.areas.specs.Touch.{Touched}
+use lib.Ieee.{nan, binary64, sub}
 use Rattle.statement.specs.Input.{+0}
+use Rattle.areas.specs.Touch.{Touched}
+use Rattle.areas.proofs.Touch as touch
+use Rattle.panels.specs.Products.{plus}
+use Rattle.panels.proofs.Floats.{sub-sum}
 use Rattle.spread.specs.Spread.{through}
+use Rattle.spread.proofs.Stores as stores
 use Rattle.spread.proofs.product_through.Statement.{statement}
 use Rattle.spread.proofs.product_through.Tie as tie
 
@@ -20,103 +20,57 @@ Inv-loop own₀ base place rows at src n a i₀ own i = (i ≤ n) × Touched nan
 abbrev μ-loop : tie.MeasureT-loop
 μ-loop own₀ base place rows at src n a i₀ own i = n - i
 
+-- where the turn begins
+abbrev turn : tie.After-slice-known3 Inv-loop μ-loop → tie.In-loop Inv-loop μ-loop
+turn c = c .before .before .before .before
+
 mul-a : tie.Need-mul-a Inv-loop μ-loop
-mul-a c =
-    let pre′ = c .pre in
-    omega (arith, pre′ .0 .within 0 (pre′ .1 .0), pre′ .1 .1)
+mul-a c = omega (arith, c .pre .0 .within 0 (c .pre .1 .0), c .pre .1 .1)
 
 slice-read-a : tie.Need-slice-read-a Inv-loop μ-loop
-slice-read-a c =
-    let pre′ = c .before .pre in
-    omega (arith, pre′ .0 .within 0 (pre′ .1 .0), pre′ .1 .1)
+slice-read-a c = let s = c .before in omega (arith, s .pre .0 .within 0 (s .pre .1 .0), s .pre .1 .1)
 
 loop-holds : tie.Need-loop-holds Inv-loop μ-loop
 loop-holds c = (omega arith, touch.none nan _ _ _)
 
 add-r : tie.Need-add-r Inv-loop μ-loop
-add-r c =
-    let pre′ = c .before .before .before .pre in
-    omega (arith, pre′ .0 .listed)
+add-r c = omega (arith, c .before .before .before .pre .0 .listed)
 
 mul-r : tie.Need-mul-r Inv-loop μ-loop
-mul-r c =
-    let pre′ = c .before .before .before .pre in
-    omega (arith, pre′ .0 .listed)
+mul-r c = omega (arith, c .before .before .before .pre .0 .listed)
 
 shared-slice-read-r : tie.Need-shared-slice-read-r Inv-loop μ-loop
-shared-slice-read-r c =
-    let pre′ = c .before .before .before .before .pre in
-    omega (arith, pre′ .0 .listed)
+shared-slice-read-r c = let t = c .before in omega (arith, t .before .before .before .pre .0 .listed)
 
 mul-p : tie.Need-mul-p Inv-loop μ-loop
-mul-p c =
-    let pre′ = c .before .before .before .before .pre in
-    let loop′ = c .before .before .loop in
-    let loop-test′ = c .before .loop-test in
-    omega (arith, pre′ .0 .known (loop′ .i) (loop-test′ .taken))
+mul-p c = let t = c .before in omega (arith, t .before .before .before .pre .0 .known (t .before .loop .i) (t .loop-test .taken))
 
 shared-slice-read-p : tie.Need-shared-slice-read-p Inv-loop μ-loop
-shared-slice-read-p c =
-    let pre′ = c .before .before .before .before .before .pre in
-    let loop′ = c .before .before .before .loop in
-    let loop-test′ = c .before .before .loop-test in
-    pre′ .0 .known (loop′ .i) (loop-test′ .taken)
+shared-slice-read-p c = let t = c .before .before in t .before .before .before .pre .0 .known (t .before .loop .i) (t .loop-test .taken)
 
 add-p : tie.Need-add-p Inv-loop μ-loop
-add-p c =
-    let pre′ = c .before .before .before .before .before .pre in
-    let loop′ = c .before .before .before .loop in
-    let loop-test′ = c .before .before .loop-test in
-    omega (arith, pre′ .0 .within (loop′ .i) (loop-test′ .taken))
+add-p c = let t = c .before .before in omega (arith, t .before .before .before .pre .0 .within (t .before .loop .i) (t .loop-test .taken))
 
 mul-own : tie.Need-mul-own Inv-loop μ-loop
-mul-own c =
-    let pre′ = c .before .before .before .before .before .pre in
-    let loop′ = c .before .before .before .loop in
-    let loop-test′ = c .before .before .loop-test in
-    omega (arith, pre′ .0 .within (loop′ .i) (loop-test′ .taken))
+mul-own c = let t = c .before .before in omega (arith, t .before .before .before .pre .0 .within (t .before .loop .i) (t .loop-test .taken))
 
 slice-read-own : tie.Need-slice-read-own Inv-loop μ-loop
-slice-read-own c =
-    let pre′ = c .before .before .before .before .before .before .pre in
-    let loop′ = c .before .before .before .before .loop in
-    let loop-test′ = c .before .before .before .loop-test in
-    omega (arith, pre′ .0 .within (loop′ .i) (loop-test′ .taken), loop′ .inv .1 .size)
+slice-read-own c = let t = c .before .before .before in stores.room (t .before .before .before .pre .0) (t .loop-test .taken) (t .before .loop .inv .1)
 
 add-own : tie.Need-add-own Inv-loop μ-loop
-add-own c =
-    let pre′ = c .before .before .before .before .before .before .pre in
-    let loop′ = c .before .before .before .before .loop in
-    let loop-test′ = c .before .before .before .loop-test in
-    omega (arith, pre′ .0 .within (loop′ .i) (loop-test′ .taken), pre′ .1 .1)
+add-own c = let t = c .before .before .before in omega (arith, t .before .before .before .pre .0 .within (t .before .loop .i) (t .loop-test .taken), t .before .before .before .pre .1 .1)
 
 mul-own-2 : tie.Need-mul-own-2 Inv-loop μ-loop
-mul-own-2 c =
-    let pre′ = c .before .before .before .before .before .before .pre in
-    let loop′ = c .before .before .before .before .loop in
-    let loop-test′ = c .before .before .before .loop-test in
-    omega (arith, pre′ .0 .within (loop′ .i) (loop-test′ .taken), pre′ .1 .1)
+mul-own-2 c = let t = c .before .before .before in omega (arith, t .before .before .before .pre .0 .within (t .before .loop .i) (t .loop-test .taken), t .before .before .before .pre .1 .1)
 
 slice-read-own-2 : tie.Need-slice-read-own-2 Inv-loop μ-loop
-slice-read-own-2 c =
-    let pre′ = c .before .before .before .before .before .before .before .pre in
-    let loop′ = c .before .before .before .before .before .loop in
-    let loop-test′ = c .before .before .before .before .loop-test in
-    omega (arith, pre′ .0 .within (loop′ .i) (loop-test′ .taken), pre′ .1 .1, loop′ .inv .1 .size)
+slice-read-own-2 c = let t = turn c in omega (arith, stores.room (t .before .before .before .pre .0) (t .loop-test .taken) (t .before .loop .inv .1), t .before .before .before .pre .1 .1)
 
 mul-own-3 : tie.Need-mul-own-3 Inv-loop μ-loop
-mul-own-3 c =
-    let pre′ = c .before .before .before .before .before .before .before .pre in
-    let loop′ = c .before .before .before .before .before .loop in
-    let loop-test′ = c .before .before .before .before .loop-test in
-    omega (arith, pre′ .0 .within (loop′ .i) (loop-test′ .taken))
+mul-own-3 c = let t = turn c in omega (arith, t .before .before .before .pre .0 .within (t .before .loop .i) (t .loop-test .taken))
 
 slice-write-own : tie.Need-slice-write-own Inv-loop μ-loop
-slice-write-own c =
-    let pre′ = c .before .before .before .before .before .before .before .pre in
-    let loop′ = c .before .before .before .before .before .loop in
-    let loop-test′ = c .before .before .before .before .loop-test in
-    omega (arith, pre′ .0 .within (loop′ .i) (loop-test′ .taken), loop′ .inv .1 .size)
+slice-write-own c = let t = turn c in stores.room (t .before .before .before .pre .0) (t .loop-test .taken) (t .before .loop .inv .1)
 
 add-i : tie.Need-add-i Inv-loop μ-loop
 add-i c = search needs
@@ -126,24 +80,15 @@ loop-less c = omega arith
 
 loop-again : tie.Need-loop-again Inv-loop μ-loop
 loop-again c =
-    let loop′ = c .before .before .before .before .before .loop in
-    let pre′ = c .before .before .before .before .before .before .before .pre in
-    let loop-test′ = c .before .before .before .before .loop-test in
-    let args′ = c .before .before .before .before .before .before .before .args in (
-      omega arith,
-      touch.more nan _ _ _ _ _ _ _ (loop′ .inv .1) refl (pre′ .0 .within (loop′ .i) (loop-test′ .taken)) (λ k h e. pre′ .0 .apart (loop′ .i) k (loop-test′ .taken) h e)
-          (sub-sum _
-          (loop′ .inv .1 .outside (through (args′ .place .now) (args′ .rows .now) (args′ .base) (args′ .at) (loop′ .i)) (λ k h e. pre′ .0 .apart (loop′ .i) k (loop-test′ .taken) h e))
-          (loop′ .inv .1 .outside (args′ .src + loop′ .i) (λ k h e. omega (arith, pre′ .1 .1, loop-test′ .taken)))),
-    )
+    let t = turn c in
+    let s = t .before .before .before in
+    (omega arith, stores.more (t .before .before .before .pre .0) (t .loop-test .taken) (t .before .loop .inv .1) _ (sub-sum _ (stores.kept (t .before .before .before .pre .0) (t .loop-test .taken) (t .before .loop .inv .1)) (stores.below (t .before .before .before .pre .0) (t .loop-test .taken) (t .before .loop .inv .1) (s .args .src + t .before .loop .i) (omega (arith, s .pre .1 .1, t .loop-test .taken)))))
 
 same-length : tie.Need-same-length Inv-loop μ-loop
 same-length c = search needs
 
 returns : tie.Need-returns Inv-loop μ-loop
-returns c =
-    let loop′ = c .before .loop in
-    touch.end nan _ _ _ _ _ _ (loop′ .inv .1) (omega arith) (omega arith)
+returns c = touch.end nan _ _ _ _ _ _ (c .before .loop .inv .1) (omega arith) (omega arith)
 
 pub product-through-spec : {M : Type 1} → statement M
 product-through-spec =

@@ -8,6 +8,7 @@ use lib.Ieee.{nan}
 use Rattle.areas.specs.Touch.{Touched}
 use Rattle.areas.proofs.Touch as touch
 use Rattle.spread.specs.Spread.{through}
+use Rattle.spread.proofs.Stores as stores
 use Rattle.spread.proofs.store_through.Statement.{statement}
 use Rattle.spread.proofs.store_through.Tie as tie
 
@@ -16,6 +17,10 @@ Inv-loop own₀ base place rows at vals n i₀ own i = (i ≤ n) × Touched nan 
 
 abbrev μ-loop : tie.MeasureT-loop
 μ-loop own₀ base place rows at vals n i₀ own i = n - i
+
+-- where the turn begins
+abbrev turn : tie.After-shared-slice-known3 Inv-loop μ-loop → tie.In-loop Inv-loop μ-loop
+turn c = c .before .before .before
 
 loop-holds : tie.Need-loop-holds Inv-loop μ-loop
 loop-holds c = (omega arith, touch.none nan _ _ _)
@@ -27,16 +32,16 @@ mul-r : tie.Need-mul-r Inv-loop μ-loop
 mul-r c = omega (arith, c .before .before .pre .0 .listed)
 
 shared-slice-read-r : tie.Need-shared-slice-read-r Inv-loop μ-loop
-shared-slice-read-r c = omega (arith, c .before .before .before .pre .0 .listed)
+shared-slice-read-r c = let t = c .before in omega (arith, t .before .before .pre .0 .listed)
 
 mul-p : tie.Need-mul-p Inv-loop μ-loop
-mul-p c = omega (arith, c .before .before .before .pre .0 .known (c .before .before .loop .i) (c .before .loop-test .taken))
+mul-p c = let t = c .before in omega (arith, t .before .before .pre .0 .known (t .before .loop .i) (t .loop-test .taken))
 
 shared-slice-read-p : tie.Need-shared-slice-read-p Inv-loop μ-loop
-shared-slice-read-p c = c .before .before .before .before .pre .0 .known (c .before .before .before .loop .i) (c .before .before .loop-test .taken)
+shared-slice-read-p c = let t = c .before .before in t .before .before .pre .0 .known (t .before .loop .i) (t .loop-test .taken)
 
 add-p : tie.Need-add-p Inv-loop μ-loop
-add-p c = omega (arith, c .before .before .before .before .pre .0 .within (c .before .before .before .loop .i) (c .before .before .loop-test .taken))
+add-p c = let t = c .before .before in omega (arith, t .before .before .pre .0 .within (t .before .loop .i) (t .loop-test .taken))
 
 add-own : tie.Need-add-own Inv-loop μ-loop
 add-own c = search needs
@@ -48,10 +53,10 @@ shared-slice-read-own : tie.Need-shared-slice-read-own Inv-loop μ-loop
 shared-slice-read-own c = search needs
 
 mul-own-2 : tie.Need-mul-own-2 Inv-loop μ-loop
-mul-own-2 c = omega (arith, c .before .before .before .before .before .pre .0 .within (c .before .before .before .before .loop .i) (c .before .before .before .loop-test .taken))
+mul-own-2 c = let t = turn c in omega (arith, t .before .before .pre .0 .within (t .before .loop .i) (t .loop-test .taken))
 
 slice-write-own : tie.Need-slice-write-own Inv-loop μ-loop
-slice-write-own c = omega (arith, c .before .before .before .before .before .pre .0 .within (c .before .before .before .before .loop .i) (c .before .before .before .loop-test .taken), c .before .before .before .before .loop .inv .1 .size)
+slice-write-own c = let t = turn c in stores.room (t .before .before .pre .0) (t .loop-test .taken) (t .before .loop .inv .1)
 
 add-i : tie.Need-add-i Inv-loop μ-loop
 add-i c = search needs
@@ -60,7 +65,7 @@ loop-less : tie.Need-loop-less Inv-loop μ-loop
 loop-less c = omega arith
 
 loop-again : tie.Need-loop-again Inv-loop μ-loop
-loop-again c = (omega arith, touch.more nan _ _ _ _ _ _ _ (c .before .before .before .before .loop .inv .1) refl (c .before .before .before .before .before .pre .0 .within (c .before .before .before .before .loop .i) (c .before .before .before .loop-test .taken)) (λ k h e. c .before .before .before .before .before .pre .0 .apart (c .before .before .before .before .loop .i) k (c .before .before .before .loop-test .taken) h e) refl)
+loop-again c = let t = turn c in (omega arith, stores.more (t .before .before .pre .0) (t .loop-test .taken) (t .before .loop .inv .1) _ refl)
 
 same-length : tie.Need-same-length Inv-loop μ-loop
 same-length c = search needs

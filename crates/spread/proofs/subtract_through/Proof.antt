@@ -1,5 +1,4 @@
 -- `spread::subtract_through` meets its contract. Touched up to i, each at its own place. Assumes nothing.
-use mathlib.Core.Path.{refl}
 use borrow.Author.Needs.{needs}
 use Prim.Native.Nat.{_-_, _≤_}
 use native.Mathlib.Omega.{arith}
@@ -9,6 +8,7 @@ use Rattle.areas.specs.Touch.{Touched}
 use Rattle.areas.proofs.Touch as touch
 use Rattle.panels.proofs.Floats.{sub-left}
 use Rattle.spread.specs.Spread.{through}
+use Rattle.spread.proofs.Stores as stores
 use Rattle.spread.proofs.subtract_through.Statement.{statement}
 use Rattle.spread.proofs.subtract_through.Tie as tie
 
@@ -17,6 +17,10 @@ Inv-loop own₀ base place rows at work n i₀ own i = (i ≤ n) × Touched nan 
 
 abbrev μ-loop : tie.MeasureT-loop
 μ-loop own₀ base place rows at work n i₀ own i = n - i
+
+-- where the turn begins
+abbrev turn : tie.After-shared-slice-known3 Inv-loop μ-loop → tie.In-loop Inv-loop μ-loop
+turn c = c .before .before .before .before
 
 loop-holds : tie.Need-loop-holds Inv-loop μ-loop
 loop-holds c = (omega arith, touch.none nan _ _ _)
@@ -28,22 +32,22 @@ mul-r : tie.Need-mul-r Inv-loop μ-loop
 mul-r c = omega (arith, c .before .before .pre .0 .listed)
 
 shared-slice-read-r : tie.Need-shared-slice-read-r Inv-loop μ-loop
-shared-slice-read-r c = omega (arith, c .before .before .before .pre .0 .listed)
+shared-slice-read-r c = let t = c .before in omega (arith, t .before .before .pre .0 .listed)
 
 mul-p : tie.Need-mul-p Inv-loop μ-loop
-mul-p c = omega (arith, c .before .before .before .pre .0 .known (c .before .before .loop .i) (c .before .loop-test .taken))
+mul-p c = let t = c .before in omega (arith, t .before .before .pre .0 .known (t .before .loop .i) (t .loop-test .taken))
 
 shared-slice-read-p : tie.Need-shared-slice-read-p Inv-loop μ-loop
-shared-slice-read-p c = c .before .before .before .before .pre .0 .known (c .before .before .before .loop .i) (c .before .before .loop-test .taken)
+shared-slice-read-p c = let t = c .before .before in t .before .before .pre .0 .known (t .before .loop .i) (t .loop-test .taken)
 
 add-p : tie.Need-add-p Inv-loop μ-loop
-add-p c = omega (arith, c .before .before .before .before .pre .0 .within (c .before .before .before .loop .i) (c .before .before .loop-test .taken))
+add-p c = let t = c .before .before in omega (arith, t .before .before .pre .0 .within (t .before .loop .i) (t .loop-test .taken))
 
 mul-own : tie.Need-mul-own Inv-loop μ-loop
-mul-own c = omega (arith, c .before .before .before .before .pre .0 .within (c .before .before .before .loop .i) (c .before .before .loop-test .taken))
+mul-own c = let t = c .before .before in omega (arith, t .before .before .pre .0 .within (t .before .loop .i) (t .loop-test .taken))
 
 slice-read-own : tie.Need-slice-read-own Inv-loop μ-loop
-slice-read-own c = omega (arith, c .before .before .before .before .before .pre .0 .within (c .before .before .before .before .loop .i) (c .before .before .before .loop-test .taken), c .before .before .before .before .loop .inv .1 .size)
+slice-read-own c = let t = c .before .before .before in stores.room (t .before .before .pre .0) (t .loop-test .taken) (t .before .loop .inv .1)
 
 mul-own-2 : tie.Need-mul-own-2 Inv-loop μ-loop
 mul-own-2 c = search needs
@@ -52,10 +56,10 @@ shared-slice-read-own : tie.Need-shared-slice-read-own Inv-loop μ-loop
 shared-slice-read-own c = search needs
 
 mul-own-3 : tie.Need-mul-own-3 Inv-loop μ-loop
-mul-own-3 c = omega (arith, c .before .before .before .before .before .before .pre .0 .within (c .before .before .before .before .before .loop .i) (c .before .before .before .before .loop-test .taken))
+mul-own-3 c = let t = turn c in omega (arith, t .before .before .pre .0 .within (t .before .loop .i) (t .loop-test .taken))
 
 slice-write-own : tie.Need-slice-write-own Inv-loop μ-loop
-slice-write-own c = omega (arith, c .before .before .before .before .before .before .pre .0 .within (c .before .before .before .before .before .loop .i) (c .before .before .before .before .loop-test .taken), c .before .before .before .before .before .loop .inv .1 .size)
+slice-write-own c = let t = turn c in stores.room (t .before .before .pre .0) (t .loop-test .taken) (t .before .loop .inv .1)
 
 add-i : tie.Need-add-i Inv-loop μ-loop
 add-i c = search needs
@@ -64,7 +68,7 @@ loop-less : tie.Need-loop-less Inv-loop μ-loop
 loop-less c = omega arith
 
 loop-again : tie.Need-loop-again Inv-loop μ-loop
-loop-again c = (omega arith, touch.more nan _ _ _ _ _ _ _ (c .before .before .before .before .before .loop .inv .1) refl (c .before .before .before .before .before .before .pre .0 .within (c .before .before .before .before .before .loop .i) (c .before .before .before .before .loop-test .taken)) (λ k h e. c .before .before .before .before .before .before .pre .0 .apart (c .before .before .before .before .before .loop .i) k (c .before .before .before .before .loop-test .taken) h e) (sub-left _ (c .before .before .before .before .before .loop .inv .1 .outside (through (c .before .before .before .before .before .before .args .place .now) (c .before .before .before .before .before .before .args .rows .now) (c .before .before .before .before .before .before .args .base) (c .before .before .before .before .before .before .args .at) (c .before .before .before .before .before .loop .i)) (λ k h e. c .before .before .before .before .before .before .pre .0 .apart (c .before .before .before .before .before .loop .i) k (c .before .before .before .before .loop-test .taken) h e))))
+loop-again c = let t = turn c in (omega arith, stores.more (t .before .before .pre .0) (t .loop-test .taken) (t .before .loop .inv .1) _ (sub-left _ (stores.kept (t .before .before .pre .0) (t .loop-test .taken) (t .before .loop .inv .1))))
 
 same-length : tie.Need-same-length Inv-loop μ-loop
 same-length c = search needs
