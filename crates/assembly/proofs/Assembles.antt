@@ -9,8 +9,7 @@ use lib.Ieee.{Float, nan}
 use Rattle.laws.proofs.Stretches.{offset-suc, offset-mono}
 use Rattle.laws.proofs.Agree.{alike-self, earlier-agree}
 use Rattle.assembly.specs.Ready.{row, Rows}
-use Rattle.assembly.specs.Assembled.{at, Gathered, FromA}
-use Rattle.assembly.specs.Assembled.{Assembled}
+use Rattle.assembly.specs.Assembled.{at, Gathered, FromA, Assembled}
 use Rattle.areas.proofs.Part as part
 use Rattle.statement.specs.Shape.{Shape, first, width, height, trapezoid, size, offset, stretch}
 use Rattle.statement.specs.Rules.{earlier}

@@ -10,8 +10,7 @@ use lib.Ieee.{Float, nan, binary64, sub}
 use Rattle.laws.proofs.Entry.{trap-suc, trap-mono}
 use Rattle.areas.specs.Touch.{Touched}
 use Rattle.panel.specs.View.{cell}
-use Rattle.spread.specs.Spread.{through, Spread, Rising}
-use Rattle.spread.specs.Spread.{posOf}
+use Rattle.spread.specs.Spread.{through, Rising, posOf}
 use Rattle.assembly.specs.Update.{spotOf, Target}
 use Rattle.areas.proofs.Touch as touch
 use Rattle.areas.proofs.Part as part

@@ -1,4 +1,4 @@
-// What a supernode's stretch holds before its own columns are factored: A's entries, less a sum for each earlier supernode.
+// The assembly of one supernode's stretch: A's entries, less a sum for each earlier supernode. And the positions of its rows, by which these go there.
 ghost use mathlib.Core.Path.{_≡_};
 ghost use Prim.Native.Nat.{ℕ, suc, _+_, _*_, _-_, _<_, _≤_};
 ghost use lib.ListN.{getD, length, take, drop};

@@ -31,6 +31,6 @@ pub record Rising (place rows : List ℕ) (base at n L : ℕ) : Type 0 where
   pub rises : Rises place rows at n
   pub within : (i : ℕ) → i < n → through place rows base at i < L
 
--- each position is the one after the last
+-- position i is i after the first
 abbrev pub Run : List ℕ → List ℕ → ℕ → ℕ → Type 0
 Run place rows at n = (i : ℕ) → i < n → posOf place rows at i ≡ posOf place rows at 0 + i
