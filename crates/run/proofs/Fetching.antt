@@ -9,7 +9,7 @@ use lib.Seq.{drop-set-lt, take-set-le, getD-set-same, getD-set-other, getD-drop}
 use Rattle.statement.specs.Areas.{noUpdate}
 use Rattle.statement.specs.declared.Update.{Update}
 use Rattle.updates.specs.Layout.{updatesAt, ownersAt}
-use Rattle.step.specs.Ready.{inWords, from}
+use Rattle.assembly.specs.Ready.{inWords, from}
 use Rattle.turn.specs.Turn.{keptAt}
 use Rattle.run.specs.Fetch.{Brought}
 

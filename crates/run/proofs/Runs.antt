@@ -17,7 +17,7 @@ use Rattle.laws.specs.Lent.{laid}
 use Rattle.laws.specs.Lower.{lowerValue}
 use Rattle.laws.proofs.Loops.{run-append}
 use Rattle.updates.specs.Layout.{updatesAt, ownersAt, offsetsAt, parentsAt, namesAt, startsAt, rowsAt}
-use Rattle.step.specs.Ready.{inWords, from}
+use Rattle.assembly.specs.Ready.{inWords, from}
 use Rattle.step.proofs.Link.{listed-same}
 use Rattle.turn.specs.Turn.{count, under, Due, Is, Fetched, Turned}
 use Rattle.turn.specs.Run.{fresh, RunReady, RunLeft}

@@ -5,7 +5,7 @@ use Prim.Native.Nat.{ℕ, _<_}
 use lib.ListN.{take, drop}
 use Rattle.statement.specs.declared.Update.{Update}
 use Rattle.updates.specs.Layout.{updatesAt, ownersAt}
-use Rattle.step.specs.Ready.{inWords, from}
+use Rattle.assembly.specs.Ready.{inWords, from}
 
 -- count updates from lo on are at hand, and the words before and after are as they were
 pub record Brought (lo count n : ℕ) (us : List Update) (words words′ : List ℕ) : Type 0 where

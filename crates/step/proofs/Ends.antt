@@ -15,10 +15,11 @@ use Rattle.step.specs.declared.StepAnswer.the-variants.{Made, Broke}
 use Rattle.areas.specs.Touch.{Touched}
 use Rattle.panel.specs.View.{cell}
 use Rattle.panels.specs.Dense.{inner, Dense}
-use Rattle.step.specs.Ready.{Rows}
-use Rattle.step.specs.Answer.{answerOf, leaves, Stepped, Assembled}
+use Rattle.assembly.specs.Ready.{Rows}
+use Rattle.step.specs.Answer.{answerOf, leaves, Stepped}
+use Rattle.assembly.specs.Assembled.{Assembled}
 use Rattle.areas.proofs.Part as part
-use Rattle.step.proofs.Gather as gather
+use Rattle.assembly.proofs.Gather as gather
 use Rattle.laws.proofs.Single as rule
 use Rattle.statement.specs.Root.{root}
 use Rattle.statement.specs.Shape.{Shape, first, width, height, rowsOf, trapezoid, size, offset, stretch, put, zeros}

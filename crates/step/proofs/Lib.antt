@@ -1,9 +1,2 @@
 pub mod Ends
-pub mod Assembles
-pub mod Scatters
-pub mod Earlies
-pub mod Gather
-pub mod Takes
-pub mod Spots
-pub mod Runs
 pub mod Link

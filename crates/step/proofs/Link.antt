@@ -23,7 +23,7 @@ use Rattle.laws.proofs.Ranks.{list-length, list-at, joined-grows, joined-part}
 use Rattle.laws.proofs.Updates.{below-first}
 use Rattle.laws.proofs.Listing.{Spans, below-most, lowOf, highOf, Each, each-of}
 use Rattle.laws.proofs.Agree.{Alike, stretch-agree, put-agree, zeros-agree, step-agree}
-use Rattle.step.specs.Ready.{row, Rows, from, source, low, high, Listed}
+use Rattle.assembly.specs.Ready.{row, Rows, from, source, low, high, Listed}
 use Rattle.step.specs.Laid.{Laid}
 use Rattle.step.specs.Answer.{answerOf, leaves, Stepped}
 use Rattle.step.specs.declared.StepAnswer.{StepAnswer}

@@ -1,14 +1,14 @@
--- What the step answers and leaves. Assumes nothing.
+-- What the step asks, answers and leaves. Definitions only.
 use mathlib.Core.Path.{_≡_}
 use mathlib.Core.List.{List}
-use Prim.Native.Nat.{ℕ, suc, _+_, _*_, _≤_, _<_}
-use lib.ListN.{length, getD, take}
-use lib.Ieee.{Float, nan}
+use Prim.Native.Nat.{ℕ, suc, _+_, _*_, _≤_}
+use lib.ListN.{length, take}
+use lib.Ieee.{Float}
 use Rattle.step.specs.declared.StepAnswer.{StepAnswer}
 use Rattle.step.specs.declared.StepAnswer.the-variants.{Made, Broke}
-use Rattle.step.specs.Ready.{row, at, Rows, inWords, Listed, Offsets, Placed}
-use Rattle.statement.specs.Shape.{Shape, first, width, height, offset, put, zeros}
-use Rattle.statement.specs.Rules.{Out, made, broke, earlier, step}
+use Rattle.assembly.specs.Ready.{Rows, inWords, Listed, Offsets, Placed}
+use Rattle.statement.specs.Shape.{Shape, offset, put, zeros}
+use Rattle.statement.specs.Rules.{Out, made, broke, step}
 use Rattle.laws.specs.Lower.{Lower, Pattern}
 
 -- by the rules' outcome: the answer, and the values with J's stretch set, to zeros where a pivot breaks
@@ -23,13 +23,6 @@ leaves S v J (broke c) = put S v J (zeros S J)
 pub record Stepped (S : Shape) (A : ℕ → ℕ → Float) (J : ℕ) (old new : List Float) (r : StepAnswer) : Type 0 where
   pub answer : r ≡ answerOf (step S A old J)
   pub values : new ≡ leaves S old J (step S A old J)
-
--- what the assembly leaves in J's stretch, and nothing else changed
-pub record Assembled (S : Shape) (A : ℕ → ℕ → Float) (J : ℕ) (old new : List Float) : Type 0 where
-  pub size : length new ≡ length old
-  pub cells : (p c : ℕ) → c < width S J → c ≤ p → p < height S J → getD new (at S J p c) nan ≡ earlier S A old (row S J p) (first S J + c) (A (row S J p) (first S J + c)) J
-  pub before : (x : ℕ) → x < offset S J → getD new x nan ≡ getD old x nan
-  pub after : (x : ℕ) → offset S (suc J) ≤ x → getD new x nan ≡ getD old x nan
 
 -- what the step asks: the first a floats are A's values, the work space stands after them
 pub record Ready (S : Shape) (J a : ℕ) (offs : List ℕ) (upd : List ℕ) (count : ℕ) (starts arows : List ℕ) (floats : List Float) (vlen : ℕ) (pl : List ℕ) : Type 0 where

@@ -14,10 +14,10 @@ use Rattle.areas.specs.Touch.{Touched}
 use Rattle.areas.proofs.Part as part
 use Rattle.areas.proofs.Middle as middle
 use Rattle.updates.specs.Layout.{updatesAt, ownersAt, offsetsAt, startsAt, rowsAt}
-use Rattle.step.specs.Ready.{row, Rows}
+use Rattle.assembly.specs.Ready.{row, Rows}
 use Rattle.step.specs.Answer.{Ready, Stepped}
 use Rattle.step.specs.declared.StepAnswer.{StepAnswer}
-use Rattle.step.proofs.Gather as gather
+use Rattle.assembly.proofs.Gather as gather
 use Rattle.turn.specs.Turn.{DueAt, Fetched}
 
 -- words that are the same from e on

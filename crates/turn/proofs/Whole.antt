@@ -20,7 +20,7 @@ use Rattle.laws.proofs.Agree.{Alike, offset-agree, run-agree}
 use Rattle.statement.specs.declared.Factored.{Factored}
 use Rattle.statement.specs.declared.Update.{Update}
 use Rattle.updates.specs.Layout.{offsetsAt, parentsAt, namesAt, startsAt, rowsAt}
-use Rattle.step.specs.Ready.{from}
+use Rattle.assembly.specs.Ready.{from}
 use Rattle.step.specs.Laid.{Laid}
 use Rattle.step.proofs.Link as link
 use Rattle.turn.specs.Turn.{count, under, Due}

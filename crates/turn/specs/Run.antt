@@ -12,7 +12,7 @@ use Rattle.statement.specs.declared.Factored.{Factored}
 use Rattle.statement.specs.declared.Update.{Update}
 use Rattle.laws.specs.Lower.{lowerValue}
 use Rattle.updates.specs.Layout.{parentsAt, namesAt, startsAt, rowsAt}
-use Rattle.step.specs.Ready.{from, Listed}
+use Rattle.assembly.specs.Ready.{from, Listed}
 use Rattle.turn.specs.Turn.{count, under, Due}
 
 -- nothing is halted, and no column has failed

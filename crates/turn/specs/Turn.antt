@@ -12,7 +12,7 @@ use Rattle.statement.specs.declared.Factored.{Factored}
 use Rattle.statement.specs.declared.Update.{Update}
 use Rattle.laws.specs.Lower.{Lower, Pattern}
 use Rattle.updates.specs.Layout.{updatesAt, ownersAt, offsetsAt, parentsAt, startsAt, rowsAt}
-use Rattle.step.specs.Ready.{Rows, inWords, Listed, Offsets}
+use Rattle.assembly.specs.Ready.{Rows, inWords, Listed, Offsets}
 
 -- for the supernode J
 pub record DueAt (S : Shape) (J a : ℕ) (groups words : List ℕ) (floats : List Float) (vlen : ℕ) : Type 0 where

@@ -70,7 +70,7 @@ fn one(
     let r0 = starts[j];
     let m = starts[j + 1] - r0;
     let count = groups[j + 1] - groups[j];
-    step::set_places(&mut words[n + 1..2 * n + 1], rows, r0, m);
+    assembly::set_places(&mut words[n + 1..2 * n + 1], rows, r0, m);
     step::step(
         j,
         n,

@@ -1,7 +1,7 @@
 -- `step::step` meets its contract. Assembly, dense factor, and zeros where a pivot breaks: what the rules' step makes. Assumes nothing.
 use Rattle.laws.specs.Lent.{laid}
-use Rattle.step.proofs.Gather as gather
-use Rattle.step.proofs.Scatters as scat
+use Rattle.assembly.proofs.Gather as gather
+use Rattle.assembly.proofs.Scatters as scat
 use Rattle.step.proofs.Ends as ends
 use Rattle.areas.proofs.Part as part
 use Rattle.laws.specs.Lower.{lowerValue}

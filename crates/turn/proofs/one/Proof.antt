@@ -4,7 +4,7 @@ use Prim.Native.Nat.{suc}
 use native.Mathlib.Omega.{arith}
 use native.Mathlib.Nat.{le-refl}
 use Rattle.statement.specs.Shape.{width}
-use Rattle.step.proofs.Gather as gather
+use Rattle.assembly.proofs.Gather as gather
 use Rattle.turn.proofs.Turns as turns
 use Rattle.laws.specs.Lent.{laid}
 use borrow.Author.Needs.{needs}
