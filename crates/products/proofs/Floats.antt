@@ -2,7 +2,7 @@
 use mathlib.Core.Path.{_≡_, refl, sym, ap, ap₂, _∙_}
 use Prim.Native.Nat.{ℕ, _+_}
 use native.Mathlib.Numerals.{add-one}
-use lib.Ieee.{Float, binary64, ofBits, add, sub, mul, div}
+use lib.Ieee.{Float, binary64, ofBits, add, sub, mul}
 use Rattle.statement.specs.Input.{+0}
 use Rattle.statement.specs.Rules.{dot, singly}
 
@@ -22,20 +22,11 @@ dot-step x y k = ap (dot x y) (sym (add-one k))
 pub dot-one : (x y : ℕ → Float) {p q : Float} → p ≡ x 0 → q ≡ y 0 → add binary64 +0 (mul binary64 p q) ≡ dot x y 1
 dot-one x y e f = ap₂ (add binary64) (dot-start x y) (ap₂ (mul binary64) e f) ∙ dot-step x y 0
 
-pub add-left : {x y : Float} (z : Float) → x ≡ y → add binary64 x z ≡ add binary64 y z
-add-left z e = ap (λ u. add binary64 u z) e
-
 pub sub-left : {x y : Float} (z : Float) → x ≡ y → sub binary64 x z ≡ sub binary64 y z
 sub-left z e = ap (λ u. sub binary64 u z) e
 
-pub sub-product : {x y p q : Float} (a : Float) → x ≡ y → p ≡ q → sub binary64 x (mul binary64 p a) ≡ sub binary64 y (mul binary64 q a)
-sub-product a e f = ap₂ (sub binary64) e (ap₂ (mul binary64) f refl)
-
 pub sub-sum : {x y p q : Float} (a : Float) → x ≡ y → p ≡ q → sub binary64 x (add binary64 (ofBits binary64 0) (mul binary64 p a)) ≡ sub binary64 y (add binary64 +0 (mul binary64 q a))
 sub-sum a e f = ap₂ (sub binary64) e (ap₂ (add binary64) zero-is (ap₂ (mul binary64) f refl))
-
-pub div-left : {x y : Float} (z : Float) → x ≡ y → div binary64 x z ≡ div binary64 y z
-div-left z e = ap (λ u. div binary64 u z) e
 
 pub singly-start : (v : Float) (x y : ℕ → Float) (a : ℕ) → v ≡ singly v x y a 0
 unfolding singly

@@ -34,9 +34,11 @@ at-in m k q kw at L h h₁ h₂ e l = omega (arith, trap-suc m k, trap-mono m (s
 pub at-next : (m k k′ q at at′ : ℕ) → k < q → q < m → k′ ≡ k + 1 → at′ ≡ at + m - k′ → at ≡ trapezoid m k + (q - k) → at′ ≡ trapezoid m k′ + (q - k′)
 at-next m k k′ q at at′ h h₁ s n e = omega (arith, trap-suc m k, ap (trapezoid m) (s ∙ add-one k))
 
+-- what the code takes off the place of the next column
 pub enough : (s m k j : ℕ) → k + j ≤ m → j ≤ s + (m - k)
 enough s m k j h = omega arith
 
+-- row q itself is among the rows from q
 pub some : (m q : ℕ) → q < m → 0 < m - q
 some m q h = omega arith
 
@@ -44,7 +46,7 @@ some m q h = omega arith
 pub wide : (s m k q L : ℕ) → s + (m - q) ≤ L → L < 9223372036854775808 → m ≤ 32768 → Fits w64 (s + (m - k))
 wide s m k q L h b f = record { fits = omega arith }
 
--- row q of four columns from k on, and of the one after them; the rows from there on lie before L
+-- s₀ to s₃ are where row q of four columns from k on stands, s₄ that of the column after them; each column's rows from q on lie before L
 pub record Four (m k q L s₀ s₁ s₂ s₃ s₄ : ℕ) : Type 0 where
   pub at₀ : s₀ ≡ trapezoid m k + (q - k)
   pub at₁ : s₁ ≡ trapezoid m (k + 1) + (q - (k + 1))
@@ -80,13 +82,13 @@ module _ (m k q kw L s₀ s₁ s₂ s₃ s₄ : ℕ) (h : k + 4 ≤ kw) (u : kw 
       a₃ : s₃ ≡ trapezoid m (k + 3) + (q - (k + 3))
       a₃ = at-next m (k + 2) (k + 3) q s₂ s₃ (omega arith) l (omega arith) e₃ a₂
 
--- eight columns from k on
+-- the same of eight columns
 pub record Eight (m k q L s₀ s₁ s₂ s₃ s₄ s₅ s₆ s₇ s₈ : ℕ) : Type 0 where
   pub low : Four m k q L s₀ s₁ s₂ s₃ s₄
   pub high : Four m (k + 4) q L s₄ s₅ s₆ s₇ s₈
   pub at₈ : s₈ ≡ trapezoid m (k + 8) + (q - (k + 8))
 
--- the code takes k and the column's number after k off one after the other
+-- the code takes k off m first, and then the number of the column after k
 down : (x s m k j b : ℕ) → k ≤ m → b ≡ k + j → x ≡ s + (m - k) - j → x ≡ s + m - b
 down x s m k j b h e d = omega arith
 

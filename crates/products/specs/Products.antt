@@ -18,7 +18,7 @@ less v at i x = sub binary64 x (mul binary64 (getD v (at + i) nan) (getD v at na
 abbrev pub plus4 : List Float → ℕ → ℕ → ℕ → ℕ → ℕ → Float → Float
 plus4 v s₀ s₁ s₂ s₃ i x = plus v s₃ i (plus v s₂ i (plus v s₁ i (plus v s₀ i x)))
 
--- of the rows from q of an m-row trapezoid, which has kw columns and more rows above, work has the sums over the first k columns
+-- of kw columns of an m-row trapezoid k are summed: work has that sum for each row from q on, where q is a row below the kw columns
 pub record Begun (m q kw k : ℕ) (v work : List Float) : Type 0 where
   pub upto : k ≤ kw
   pub above : kw ≤ q

@@ -63,7 +63,9 @@ add-s1 c =
     let loop′ = c .before .loop in
     let pre′ = c .before .before .before .before .before .pre in
     let loop-test′ = c .loop-test in
-    let b : column-start′ .result < 9223372036854775808 = omega (arith, column-start′ .ensures) in let f = rise.fours (args′ .m) (loop′ .k) (args′ .c) (args′ .c) _ (loop′ .src) _ _ _ _ (le-refl (args′ .c)) (pre′ .1) (le-of-eq (sym (column-start′ .ensures))) (loop′ .inv .2) refl refl refl refl (loop-test′ .taken) in rise.wide _ (args′ .m) (loop′ .k) _ _ (f .in₀) b (pre′ .2)
+    let b : column-start′ .result < 9223372036854775808 = omega (arith, column-start′ .ensures) in
+    let f = rise.fours (args′ .m) (loop′ .k) (args′ .c) (args′ .c) _ (loop′ .src) _ _ _ _ (le-refl (args′ .c)) (pre′ .1) (le-of-eq (sym (column-start′ .ensures))) (loop′ .inv .2) refl refl refl refl (loop-test′ .taken) in
+    rise.wide _ (args′ .m) (loop′ .k) _ _ (f .in₀) b (pre′ .2)
 
 sub-s1 : tie.Need-sub-s1 Inv-loop μ-loop Inv-loop2 μ-loop2
 sub-s1 c =
@@ -78,7 +80,9 @@ add-s2 c =
     let loop′ = c .before .loop in
     let pre′ = c .before .before .before .before .before .pre in
     let loop-test′ = c .loop-test in
-    let b : column-start′ .result < 9223372036854775808 = omega (arith, column-start′ .ensures) in let f = rise.fours (args′ .m) (loop′ .k) (args′ .c) (args′ .c) _ (loop′ .src) _ _ _ _ (le-refl (args′ .c)) (pre′ .1) (le-of-eq (sym (column-start′ .ensures))) (loop′ .inv .2) refl refl refl refl (loop-test′ .taken) in rise.wide _ (args′ .m) (loop′ .k) _ _ (f .in₁) b (pre′ .2)
+    let b : column-start′ .result < 9223372036854775808 = omega (arith, column-start′ .ensures) in
+    let f = rise.fours (args′ .m) (loop′ .k) (args′ .c) (args′ .c) _ (loop′ .src) _ _ _ _ (le-refl (args′ .c)) (pre′ .1) (le-of-eq (sym (column-start′ .ensures))) (loop′ .inv .2) refl refl refl refl (loop-test′ .taken) in
+    rise.wide _ (args′ .m) (loop′ .k) _ _ (f .in₁) b (pre′ .2)
 
 sub-s2 : tie.Need-sub-s2 Inv-loop μ-loop Inv-loop2 μ-loop2
 sub-s2 c =
@@ -93,7 +97,9 @@ add-s3 c =
     let loop′ = c .before .loop in
     let pre′ = c .before .before .before .before .before .pre in
     let loop-test′ = c .loop-test in
-    let b : column-start′ .result < 9223372036854775808 = omega (arith, column-start′ .ensures) in let f = rise.fours (args′ .m) (loop′ .k) (args′ .c) (args′ .c) _ (loop′ .src) _ _ _ _ (le-refl (args′ .c)) (pre′ .1) (le-of-eq (sym (column-start′ .ensures))) (loop′ .inv .2) refl refl refl refl (loop-test′ .taken) in rise.wide _ (args′ .m) (loop′ .k) _ _ (f .in₂) b (pre′ .2)
+    let b : column-start′ .result < 9223372036854775808 = omega (arith, column-start′ .ensures) in
+    let f = rise.fours (args′ .m) (loop′ .k) (args′ .c) (args′ .c) _ (loop′ .src) _ _ _ _ (le-refl (args′ .c)) (pre′ .1) (le-of-eq (sym (column-start′ .ensures))) (loop′ .inv .2) refl refl refl refl (loop-test′ .taken) in
+    rise.wide _ (args′ .m) (loop′ .k) _ _ (f .in₂) b (pre′ .2)
 
 sub-s3 : tie.Need-sub-s3 Inv-loop μ-loop Inv-loop2 μ-loop2
 sub-s3 c =
@@ -108,7 +114,8 @@ sub4-requires c κs =
     let pre′ = c .before .before .before .before .before .before .pre in
     let column-start′ = c .before .before .before .before .column-start in
     let loop-test′ = c .before .loop-test in
-    let f = rise.fours (args′ .m) (loop′ .k) (args′ .c) (args′ .c) _ (loop′ .src) _ _ _ _ (le-refl (args′ .c)) (pre′ .1) (le-of-eq (sym (column-start′ .ensures))) (loop′ .inv .2) refl refl refl refl (loop-test′ .taken) in (rise.some _ _ (pre′ .1), f .in₀, f .in₁, f .in₂, f .in₃, omega (arith, column-start′ .ensures, loop′ .inv .3 .size))
+    let f = rise.fours (args′ .m) (loop′ .k) (args′ .c) (args′ .c) _ (loop′ .src) _ _ _ _ (le-refl (args′ .c)) (pre′ .1) (le-of-eq (sym (column-start′ .ensures))) (loop′ .inv .2) refl refl refl refl (loop-test′ .taken) in
+    (rise.some _ _ (pre′ .1), f .in₀, f .in₁, f .in₂, f .in₃, omega (arith, column-start′ .ensures, loop′ .inv .3 .size))
 
 add-src-2 : tie.Need-add-src-2 Inv-loop μ-loop Inv-loop2 μ-loop2
 add-src-2 c =
@@ -117,7 +124,9 @@ add-src-2 c =
     let loop′ = c .before .before .before .before .before .loop in
     let pre′ = c .before .before .before .before .before .before .before .before .before .pre in
     let loop-test′ = c .before .before .before .before .loop-test in
-    let b : column-start′ .result < 9223372036854775808 = omega (arith, column-start′ .ensures) in let f = rise.fours (args′ .m) (loop′ .k) (args′ .c) (args′ .c) _ (loop′ .src) _ _ _ _ (le-refl (args′ .c)) (pre′ .1) (le-of-eq (sym (column-start′ .ensures))) (loop′ .inv .2) refl refl refl refl (loop-test′ .taken) in rise.wide _ (args′ .m) (loop′ .k) _ _ (f .in₃) b (pre′ .2)
+    let b : column-start′ .result < 9223372036854775808 = omega (arith, column-start′ .ensures) in
+    let f = rise.fours (args′ .m) (loop′ .k) (args′ .c) (args′ .c) _ (loop′ .src) _ _ _ _ (le-refl (args′ .c)) (pre′ .1) (le-of-eq (sym (column-start′ .ensures))) (loop′ .inv .2) refl refl refl refl (loop-test′ .taken) in
+    rise.wide _ (args′ .m) (loop′ .k) _ _ (f .in₃) b (pre′ .2)
 
 sub-src-2 : tie.Need-sub-src-2 Inv-loop μ-loop Inv-loop2 μ-loop2
 sub-src-2 c =
@@ -139,7 +148,8 @@ loop-again c =
     let column-start′ = c .before .before .before .before .before .before .before .column-start in
     let loop-test′ = c .before .before .before .before .loop-test in
     let sub4′ = c .before .before .sub4 in
-    let f = rise.fours (args′ .m) (loop′ .k) (args′ .c) (args′ .c) _ (loop′ .src) _ _ _ _ (le-refl (args′ .c)) (pre′ .1) (le-of-eq (sym (column-start′ .ensures))) (loop′ .inv .2) refl refl refl refl (loop-test′ .taken) in (omega arith, loop-test′ .taken, f .at₄, cols.singled-more4 _ (args′ .m) (args′ .c) (args′ .c0) _ _ _ (loop′ .k) (loop′ .src) _ _ _ _ (column-start′ .ensures) (loop′ .inv .3) (loop′ .inv .0) (loop-test′ .taken) (pre′ .1) f (sub4′ .ensures))
+    let f = rise.fours (args′ .m) (loop′ .k) (args′ .c) (args′ .c) _ (loop′ .src) _ _ _ _ (le-refl (args′ .c)) (pre′ .1) (le-of-eq (sym (column-start′ .ensures))) (loop′ .inv .2) refl refl refl refl (loop-test′ .taken) in
+    (omega arith, loop-test′ .taken, f .at₄, cols.singled-more4 _ (args′ .m) (args′ .c) (args′ .c0) _ _ _ (loop′ .k) (loop′ .src) _ _ _ _ (column-start′ .ensures) (loop′ .inv .3) (loop′ .inv .0) (loop-test′ .taken) (pre′ .1) f (sub4′ .ensures))
 
 loop2-holds : tie.Need-loop2-holds Inv-loop μ-loop Inv-loop2 μ-loop2
 loop2-holds c =

@@ -36,7 +36,7 @@ loop-holds : tie.Need-loop-holds Inv-loop μ-loop
 loop-holds c =
     let pre′ = c .before .before .before .pre in
     let column-start′ = c .column-start in
-    (pre′ .upto, omega (arith, column-start′ .ensures), rise.summed-here _ _ _ _ _ refl (pre′))
+    (pre′ .upto, omega (arith, column-start′ .ensures), rise.summed-here _ _ _ _ _ refl pre′)
 
 add-loop : tie.Need-add-loop Inv-loop μ-loop
 add-loop c = omega arith
@@ -50,7 +50,9 @@ add-s1 c =
     let loop′ = c .before .loop in
     let pre′ = c .before .before .before .before .before .pre in
     let loop-test′ = c .loop-test in
-    let b : length (args′ .v .now) < 9223372036854775808 = omega arith in let f = rise.eights (args′ .m) (loop′ .k) (args′ .q) (args′ .kw) _ (loop′ .src) _ _ _ _ (pre′ .above) (pre′ .here) (pre′ .stored) (loop′ .inv .1) refl refl refl refl _ _ _ _ (loop-test′ .taken) refl refl refl refl in rise.wide _ (args′ .m) (loop′ .k) _ _ (f .low .in₀) b (pre′ .few)
+    let b : length (args′ .v .now) < 9223372036854775808 = omega arith in
+    let f = rise.eights (args′ .m) (loop′ .k) (args′ .q) (args′ .kw) _ (loop′ .src) _ _ _ _ (pre′ .above) (pre′ .here) (pre′ .stored) (loop′ .inv .1) refl refl refl refl _ _ _ _ (loop-test′ .taken) refl refl refl refl in
+    rise.wide _ (args′ .m) (loop′ .k) _ _ (f .low .in₀) b (pre′ .few)
 
 sub-s1 : tie.Need-sub-s1 Inv-loop μ-loop
 sub-s1 c =
@@ -64,7 +66,9 @@ add-s2 c =
     let loop′ = c .before .loop in
     let pre′ = c .before .before .before .before .before .pre in
     let loop-test′ = c .loop-test in
-    let b : length (args′ .v .now) < 9223372036854775808 = omega arith in let f = rise.eights (args′ .m) (loop′ .k) (args′ .q) (args′ .kw) _ (loop′ .src) _ _ _ _ (pre′ .above) (pre′ .here) (pre′ .stored) (loop′ .inv .1) refl refl refl refl _ _ _ _ (loop-test′ .taken) refl refl refl refl in rise.wide _ (args′ .m) (loop′ .k) _ _ (f .low .in₁) b (pre′ .few)
+    let b : length (args′ .v .now) < 9223372036854775808 = omega arith in
+    let f = rise.eights (args′ .m) (loop′ .k) (args′ .q) (args′ .kw) _ (loop′ .src) _ _ _ _ (pre′ .above) (pre′ .here) (pre′ .stored) (loop′ .inv .1) refl refl refl refl _ _ _ _ (loop-test′ .taken) refl refl refl refl in
+    rise.wide _ (args′ .m) (loop′ .k) _ _ (f .low .in₁) b (pre′ .few)
 
 sub-s2 : tie.Need-sub-s2 Inv-loop μ-loop
 sub-s2 c =
@@ -78,7 +82,9 @@ add-s3 c =
     let loop′ = c .before .loop in
     let pre′ = c .before .before .before .before .before .pre in
     let loop-test′ = c .loop-test in
-    let b : length (args′ .v .now) < 9223372036854775808 = omega arith in let f = rise.eights (args′ .m) (loop′ .k) (args′ .q) (args′ .kw) _ (loop′ .src) _ _ _ _ (pre′ .above) (pre′ .here) (pre′ .stored) (loop′ .inv .1) refl refl refl refl _ _ _ _ (loop-test′ .taken) refl refl refl refl in rise.wide _ (args′ .m) (loop′ .k) _ _ (f .low .in₂) b (pre′ .few)
+    let b : length (args′ .v .now) < 9223372036854775808 = omega arith in
+    let f = rise.eights (args′ .m) (loop′ .k) (args′ .q) (args′ .kw) _ (loop′ .src) _ _ _ _ (pre′ .above) (pre′ .here) (pre′ .stored) (loop′ .inv .1) refl refl refl refl _ _ _ _ (loop-test′ .taken) refl refl refl refl in
+    rise.wide _ (args′ .m) (loop′ .k) _ _ (f .low .in₂) b (pre′ .few)
 
 sub-s3 : tie.Need-sub-s3 Inv-loop μ-loop
 sub-s3 c =
@@ -92,7 +98,9 @@ add-s4 c =
     let loop′ = c .before .loop in
     let pre′ = c .before .before .before .before .before .pre in
     let loop-test′ = c .loop-test in
-    let b : length (args′ .v .now) < 9223372036854775808 = omega arith in let f = rise.eights (args′ .m) (loop′ .k) (args′ .q) (args′ .kw) _ (loop′ .src) _ _ _ _ (pre′ .above) (pre′ .here) (pre′ .stored) (loop′ .inv .1) refl refl refl refl _ _ _ _ (loop-test′ .taken) refl refl refl refl in rise.wide _ (args′ .m) (loop′ .k) _ _ (f .low .in₃) b (pre′ .few)
+    let b : length (args′ .v .now) < 9223372036854775808 = omega arith in
+    let f = rise.eights (args′ .m) (loop′ .k) (args′ .q) (args′ .kw) _ (loop′ .src) _ _ _ _ (pre′ .above) (pre′ .here) (pre′ .stored) (loop′ .inv .1) refl refl refl refl _ _ _ _ (loop-test′ .taken) refl refl refl refl in
+    rise.wide _ (args′ .m) (loop′ .k) _ _ (f .low .in₃) b (pre′ .few)
 
 sub-s4 : tie.Need-sub-s4 Inv-loop μ-loop
 sub-s4 c =
@@ -106,7 +114,9 @@ add-s5 c =
     let loop′ = c .before .loop in
     let pre′ = c .before .before .before .before .before .pre in
     let loop-test′ = c .loop-test in
-    let b : length (args′ .v .now) < 9223372036854775808 = omega arith in let f = rise.eights (args′ .m) (loop′ .k) (args′ .q) (args′ .kw) _ (loop′ .src) _ _ _ _ (pre′ .above) (pre′ .here) (pre′ .stored) (loop′ .inv .1) refl refl refl refl _ _ _ _ (loop-test′ .taken) refl refl refl refl in rise.wide _ (args′ .m) (loop′ .k) _ _ (f .high .in₀) b (pre′ .few)
+    let b : length (args′ .v .now) < 9223372036854775808 = omega arith in
+    let f = rise.eights (args′ .m) (loop′ .k) (args′ .q) (args′ .kw) _ (loop′ .src) _ _ _ _ (pre′ .above) (pre′ .here) (pre′ .stored) (loop′ .inv .1) refl refl refl refl _ _ _ _ (loop-test′ .taken) refl refl refl refl in
+    rise.wide _ (args′ .m) (loop′ .k) _ _ (f .high .in₀) b (pre′ .few)
 
 sub-s5 : tie.Need-sub-s5 Inv-loop μ-loop
 sub-s5 c =
@@ -120,7 +130,9 @@ add-s6 c =
     let loop′ = c .before .loop in
     let pre′ = c .before .before .before .before .before .pre in
     let loop-test′ = c .loop-test in
-    let b : length (args′ .v .now) < 9223372036854775808 = omega arith in let f = rise.eights (args′ .m) (loop′ .k) (args′ .q) (args′ .kw) _ (loop′ .src) _ _ _ _ (pre′ .above) (pre′ .here) (pre′ .stored) (loop′ .inv .1) refl refl refl refl _ _ _ _ (loop-test′ .taken) refl refl refl refl in rise.wide _ (args′ .m) (loop′ .k) _ _ (f .high .in₁) b (pre′ .few)
+    let b : length (args′ .v .now) < 9223372036854775808 = omega arith in
+    let f = rise.eights (args′ .m) (loop′ .k) (args′ .q) (args′ .kw) _ (loop′ .src) _ _ _ _ (pre′ .above) (pre′ .here) (pre′ .stored) (loop′ .inv .1) refl refl refl refl _ _ _ _ (loop-test′ .taken) refl refl refl refl in
+    rise.wide _ (args′ .m) (loop′ .k) _ _ (f .high .in₁) b (pre′ .few)
 
 sub-s6 : tie.Need-sub-s6 Inv-loop μ-loop
 sub-s6 c =
@@ -134,7 +146,9 @@ add-s7 c =
     let loop′ = c .before .loop in
     let pre′ = c .before .before .before .before .before .pre in
     let loop-test′ = c .loop-test in
-    let b : length (args′ .v .now) < 9223372036854775808 = omega arith in let f = rise.eights (args′ .m) (loop′ .k) (args′ .q) (args′ .kw) _ (loop′ .src) _ _ _ _ (pre′ .above) (pre′ .here) (pre′ .stored) (loop′ .inv .1) refl refl refl refl _ _ _ _ (loop-test′ .taken) refl refl refl refl in rise.wide _ (args′ .m) (loop′ .k) _ _ (f .high .in₂) b (pre′ .few)
+    let b : length (args′ .v .now) < 9223372036854775808 = omega arith in
+    let f = rise.eights (args′ .m) (loop′ .k) (args′ .q) (args′ .kw) _ (loop′ .src) _ _ _ _ (pre′ .above) (pre′ .here) (pre′ .stored) (loop′ .inv .1) refl refl refl refl _ _ _ _ (loop-test′ .taken) refl refl refl refl in
+    rise.wide _ (args′ .m) (loop′ .k) _ _ (f .high .in₂) b (pre′ .few)
 
 sub-s7 : tie.Need-sub-s7 Inv-loop μ-loop
 sub-s7 c =
@@ -148,7 +162,8 @@ add8-requires c κs =
     let loop′ = c .before .before .loop in
     let pre′ = c .before .before .before .before .before .before .pre in
     let loop-test′ = c .before .loop-test in
-    let f = rise.eights (args′ .m) (loop′ .k) (args′ .q) (args′ .kw) _ (loop′ .src) _ _ _ _ (pre′ .above) (pre′ .here) (pre′ .stored) (loop′ .inv .1) refl refl refl refl _ _ _ _ (loop-test′ .taken) refl refl refl refl in (rise.some _ _ (pre′ .here), f .low .in₀, f .low .in₁, f .low .in₂, f .low .in₃, f .high .in₀, f .high .in₁, f .high .in₂, f .high .in₃, rise.begun-on _ (pre′) (loop′ .inv .2) (loop′ .inv .0) .room)
+    let f = rise.eights (args′ .m) (loop′ .k) (args′ .q) (args′ .kw) _ (loop′ .src) _ _ _ _ (pre′ .above) (pre′ .here) (pre′ .stored) (loop′ .inv .1) refl refl refl refl _ _ _ _ (loop-test′ .taken) refl refl refl refl in
+    (rise.some _ _ (pre′ .here), f .low .in₀, f .low .in₁, f .low .in₂, f .low .in₃, f .high .in₀, f .high .in₁, f .high .in₂, f .high .in₃, rise.begun-on _ pre′ (loop′ .inv .2) (loop′ .inv .0) .room)
 
 add-src-2 : tie.Need-add-src-2 Inv-loop μ-loop
 add-src-2 c =
@@ -156,7 +171,9 @@ add-src-2 c =
     let loop′ = c .before .before .before .before .before .loop in
     let pre′ = c .before .before .before .before .before .before .before .before .before .pre in
     let loop-test′ = c .before .before .before .before .loop-test in
-    let b : length (args′ .v .now) < 9223372036854775808 = omega arith in let f = rise.eights (args′ .m) (loop′ .k) (args′ .q) (args′ .kw) _ (loop′ .src) _ _ _ _ (pre′ .above) (pre′ .here) (pre′ .stored) (loop′ .inv .1) refl refl refl refl _ _ _ _ (loop-test′ .taken) refl refl refl refl in rise.wide _ (args′ .m) (loop′ .k) _ _ (f .high .in₃) b (pre′ .few)
+    let b : length (args′ .v .now) < 9223372036854775808 = omega arith in
+    let f = rise.eights (args′ .m) (loop′ .k) (args′ .q) (args′ .kw) _ (loop′ .src) _ _ _ _ (pre′ .above) (pre′ .here) (pre′ .stored) (loop′ .inv .1) refl refl refl refl _ _ _ _ (loop-test′ .taken) refl refl refl refl in
+    rise.wide _ (args′ .m) (loop′ .k) _ _ (f .high .in₃) b (pre′ .few)
 
 sub-src-2 : tie.Need-sub-src-2 Inv-loop μ-loop
 sub-src-2 c =
@@ -177,13 +194,14 @@ loop-again c =
     let pre′ = c .before .before .before .before .before .before .before .before .before .pre in
     let loop-test′ = c .before .before .before .before .loop-test in
     let add8′ = c .before .before .add8 in
-    let f = rise.eights (args′ .m) (loop′ .k) (args′ .q) (args′ .kw) _ (loop′ .src) _ _ _ _ (pre′ .above) (pre′ .here) (pre′ .stored) (loop′ .inv .1) refl refl refl refl _ _ _ _ (loop-test′ .taken) refl refl refl refl in (loop-test′ .taken, f .at₈, rise.summed-more8 _ (args′ .v .now) (args′ .m) (args′ .q) _ _ _ (loop′ .k) _ _ _ _ _ _ _ _ _ _ (le-trans (loop-test′ .taken) (pre′ .above)) f (loop′ .inv .2) (add8′ .ensures))
+    let f = rise.eights (args′ .m) (loop′ .k) (args′ .q) (args′ .kw) _ (loop′ .src) _ _ _ _ (pre′ .above) (pre′ .here) (pre′ .stored) (loop′ .inv .1) refl refl refl refl _ _ _ _ (loop-test′ .taken) refl refl refl refl in
+    (loop-test′ .taken, f .at₈, rise.summed-more8 _ (args′ .v .now) (args′ .m) (args′ .q) _ _ _ (loop′ .k) _ _ _ _ _ _ _ _ _ _ (le-trans (loop-test′ .taken) (pre′ .above)) f (loop′ .inv .2) (add8′ .ensures))
 
 by-fours-requires : tie.Need-by-fours-requires Inv-loop μ-loop
 by-fours-requires c κs =
     let pre′ = c .before .before .before .before .before .before .pre in
     let loop′ = c .before .before .loop in
-    rise.begun-on _ (pre′) (loop′ .inv .2) (loop′ .inv .0)
+    rise.begun-on _ pre′ (loop′ .inv .2) (loop′ .inv .0)
 
 same-length : tie.Need-same-length Inv-loop μ-loop
 same-length c =

@@ -36,7 +36,7 @@ loop-holds : tie.Need-loop-holds Inv-loop μ-loop
 loop-holds c =
     let pre′ = c .before .before .before .pre in
     let column-start′ = c .column-start in
-    (pre′ .upto, omega (arith, column-start′ .ensures), rise.summed-here _ _ _ _ _ refl (pre′))
+    (pre′ .upto, omega (arith, column-start′ .ensures), rise.summed-here _ _ _ _ _ refl pre′)
 
 add-loop : tie.Need-add-loop Inv-loop μ-loop
 add-loop c = omega arith
@@ -50,7 +50,9 @@ add-s1 c =
     let loop′ = c .before .loop in
     let pre′ = c .before .before .before .before .before .pre in
     let loop-test′ = c .loop-test in
-    let b : length (args′ .v .now) < 9223372036854775808 = omega arith in let f = rise.fours (args′ .m) (loop′ .k) (args′ .q) (args′ .kw) _ (loop′ .src) _ _ _ _ (pre′ .above) (pre′ .here) (pre′ .stored) (loop′ .inv .1) refl refl refl refl (loop-test′ .taken) in rise.wide _ (args′ .m) (loop′ .k) _ _ (f .in₀) b (pre′ .few)
+    let b : length (args′ .v .now) < 9223372036854775808 = omega arith in
+    let f = rise.fours (args′ .m) (loop′ .k) (args′ .q) (args′ .kw) _ (loop′ .src) _ _ _ _ (pre′ .above) (pre′ .here) (pre′ .stored) (loop′ .inv .1) refl refl refl refl (loop-test′ .taken) in
+    rise.wide _ (args′ .m) (loop′ .k) _ _ (f .in₀) b (pre′ .few)
 
 sub-s1 : tie.Need-sub-s1 Inv-loop μ-loop
 sub-s1 c =
@@ -64,7 +66,9 @@ add-s2 c =
     let loop′ = c .before .loop in
     let pre′ = c .before .before .before .before .before .pre in
     let loop-test′ = c .loop-test in
-    let b : length (args′ .v .now) < 9223372036854775808 = omega arith in let f = rise.fours (args′ .m) (loop′ .k) (args′ .q) (args′ .kw) _ (loop′ .src) _ _ _ _ (pre′ .above) (pre′ .here) (pre′ .stored) (loop′ .inv .1) refl refl refl refl (loop-test′ .taken) in rise.wide _ (args′ .m) (loop′ .k) _ _ (f .in₁) b (pre′ .few)
+    let b : length (args′ .v .now) < 9223372036854775808 = omega arith in
+    let f = rise.fours (args′ .m) (loop′ .k) (args′ .q) (args′ .kw) _ (loop′ .src) _ _ _ _ (pre′ .above) (pre′ .here) (pre′ .stored) (loop′ .inv .1) refl refl refl refl (loop-test′ .taken) in
+    rise.wide _ (args′ .m) (loop′ .k) _ _ (f .in₁) b (pre′ .few)
 
 sub-s2 : tie.Need-sub-s2 Inv-loop μ-loop
 sub-s2 c =
@@ -78,7 +82,9 @@ add-s3 c =
     let loop′ = c .before .loop in
     let pre′ = c .before .before .before .before .before .pre in
     let loop-test′ = c .loop-test in
-    let b : length (args′ .v .now) < 9223372036854775808 = omega arith in let f = rise.fours (args′ .m) (loop′ .k) (args′ .q) (args′ .kw) _ (loop′ .src) _ _ _ _ (pre′ .above) (pre′ .here) (pre′ .stored) (loop′ .inv .1) refl refl refl refl (loop-test′ .taken) in rise.wide _ (args′ .m) (loop′ .k) _ _ (f .in₂) b (pre′ .few)
+    let b : length (args′ .v .now) < 9223372036854775808 = omega arith in
+    let f = rise.fours (args′ .m) (loop′ .k) (args′ .q) (args′ .kw) _ (loop′ .src) _ _ _ _ (pre′ .above) (pre′ .here) (pre′ .stored) (loop′ .inv .1) refl refl refl refl (loop-test′ .taken) in
+    rise.wide _ (args′ .m) (loop′ .k) _ _ (f .in₂) b (pre′ .few)
 
 sub-s3 : tie.Need-sub-s3 Inv-loop μ-loop
 sub-s3 c =
@@ -92,7 +98,8 @@ add4-requires c κs =
     let loop′ = c .before .before .loop in
     let pre′ = c .before .before .before .before .before .before .pre in
     let loop-test′ = c .before .loop-test in
-    let f = rise.fours (args′ .m) (loop′ .k) (args′ .q) (args′ .kw) _ (loop′ .src) _ _ _ _ (pre′ .above) (pre′ .here) (pre′ .stored) (loop′ .inv .1) refl refl refl refl (loop-test′ .taken) in (rise.some _ _ (pre′ .here), f .in₀, f .in₁, f .in₂, f .in₃, rise.begun-on _ (pre′) (loop′ .inv .2) (loop′ .inv .0) .room)
+    let f = rise.fours (args′ .m) (loop′ .k) (args′ .q) (args′ .kw) _ (loop′ .src) _ _ _ _ (pre′ .above) (pre′ .here) (pre′ .stored) (loop′ .inv .1) refl refl refl refl (loop-test′ .taken) in
+    (rise.some _ _ (pre′ .here), f .in₀, f .in₁, f .in₂, f .in₃, rise.begun-on _ pre′ (loop′ .inv .2) (loop′ .inv .0) .room)
 
 add-src-2 : tie.Need-add-src-2 Inv-loop μ-loop
 add-src-2 c =
@@ -100,7 +107,9 @@ add-src-2 c =
     let loop′ = c .before .before .before .before .before .loop in
     let pre′ = c .before .before .before .before .before .before .before .before .before .pre in
     let loop-test′ = c .before .before .before .before .loop-test in
-    let b : length (args′ .v .now) < 9223372036854775808 = omega arith in let f = rise.fours (args′ .m) (loop′ .k) (args′ .q) (args′ .kw) _ (loop′ .src) _ _ _ _ (pre′ .above) (pre′ .here) (pre′ .stored) (loop′ .inv .1) refl refl refl refl (loop-test′ .taken) in rise.wide _ (args′ .m) (loop′ .k) _ _ (f .in₃) b (pre′ .few)
+    let b : length (args′ .v .now) < 9223372036854775808 = omega arith in
+    let f = rise.fours (args′ .m) (loop′ .k) (args′ .q) (args′ .kw) _ (loop′ .src) _ _ _ _ (pre′ .above) (pre′ .here) (pre′ .stored) (loop′ .inv .1) refl refl refl refl (loop-test′ .taken) in
+    rise.wide _ (args′ .m) (loop′ .k) _ _ (f .in₃) b (pre′ .few)
 
 sub-src-2 : tie.Need-sub-src-2 Inv-loop μ-loop
 sub-src-2 c =
@@ -121,13 +130,14 @@ loop-again c =
     let pre′ = c .before .before .before .before .before .before .before .before .before .pre in
     let loop-test′ = c .before .before .before .before .loop-test in
     let add4′ = c .before .before .add4 in
-    let f = rise.fours (args′ .m) (loop′ .k) (args′ .q) (args′ .kw) _ (loop′ .src) _ _ _ _ (pre′ .above) (pre′ .here) (pre′ .stored) (loop′ .inv .1) refl refl refl refl (loop-test′ .taken) in (loop-test′ .taken, f .at₄, rise.summed-more4 _ (args′ .v .now) (args′ .m) (args′ .q) _ _ _ (loop′ .k) _ _ _ _ _ _ (le-trans (loop-test′ .taken) (pre′ .above)) f (loop′ .inv .2) (add4′ .ensures))
+    let f = rise.fours (args′ .m) (loop′ .k) (args′ .q) (args′ .kw) _ (loop′ .src) _ _ _ _ (pre′ .above) (pre′ .here) (pre′ .stored) (loop′ .inv .1) refl refl refl refl (loop-test′ .taken) in
+    (loop-test′ .taken, f .at₄, rise.summed-more4 _ (args′ .v .now) (args′ .m) (args′ .q) _ _ _ (loop′ .k) _ _ _ _ _ _ (le-trans (loop-test′ .taken) (pre′ .above)) f (loop′ .inv .2) (add4′ .ensures))
 
 by-ones-requires : tie.Need-by-ones-requires Inv-loop μ-loop
 by-ones-requires c κs =
     let pre′ = c .before .before .before .before .before .before .pre in
     let loop′ = c .before .before .loop in
-    rise.begun-on _ (pre′) (loop′ .inv .2) (loop′ .inv .0)
+    rise.begun-on _ pre′ (loop′ .inv .2) (loop′ .inv .0)
 
 same-length : tie.Need-same-length Inv-loop μ-loop
 same-length c =

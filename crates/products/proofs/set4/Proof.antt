@@ -8,7 +8,7 @@ use Rattle.statement.specs.Input.{+0}
 use Rattle.areas.proofs.Touch as touch
 use Rattle.areas.specs.Touch.{Touched}
 use Rattle.products.specs.Products.{plus4}
-use Rattle.products.proofs.Floats.{zero-is, add-left}
+use Rattle.products.proofs.Floats.{zero-is}
 use Rattle.products.proofs.set4.Statement.{statement}
 use Rattle.products.proofs.set4.Tie as tie
 
@@ -96,7 +96,7 @@ loop-less c = search needs
 loop-again : tie.Need-loop-again Inv-loop μ-loop
 loop-again c =
     let loop′ = c .before .before .before .before .before .loop in
-    (omega arith, touch.more nan _ _ _ _ _ _ _ (loop′ .inv .1) refl (omega arith) (λ k h e. omega arith) (add-left _ (add-left _ (add-left _ (add-left _ zero-is)))))
+    (omega arith, touch.more nan _ _ _ _ _ _ _ (loop′ .inv .1) refl (omega arith) (λ k h e. omega arith) (rw zero-is))
 
 same-length : tie.Need-same-length Inv-loop μ-loop
 same-length c = search needs

@@ -8,7 +8,6 @@ use lib.Ieee.{nan}
 use Rattle.areas.specs.Touch.{Touched}
 use Rattle.areas.proofs.Touch as touch
 use Rattle.products.specs.Products.{less}
-use Rattle.products.proofs.Floats.{sub-product}
 use Rattle.products.proofs.sub1.Statement.{statement}
 use Rattle.products.proofs.sub1.Tie as tie
 
@@ -62,12 +61,9 @@ loop-less c = search needs
 
 loop-again : tie.Need-loop-again Inv-loop μ-loop
 loop-again c =
-    let l = c .before .before .before .loop in
-    let a = c .before .before .before .before .before .args in (
-      omega arith,
-      touch.more nan _ _ _ _ _ _ _ (l .inv .1) refl (omega arith) (λ k h e. omega arith)
-          (sub-product _ (l .inv .1 .outside (a .dst + l .i) (λ k h e. omega arith)) (l .inv .1 .outside (a .src + l .i) (λ k h e. omega arith))),
-    )
+    let loop′ = c .before .before .before .loop in
+    let args′ = c .before .before .before .before .before .args in
+    (omega arith, touch.more nan _ _ _ _ _ _ _ (loop′ .inv .1) refl (omega arith) (λ k h e. omega arith) (rw (loop′ .inv .1 .outside (args′ .dst + loop′ .i) (λ k h e. omega arith), loop′ .inv .1 .outside (args′ .src + loop′ .i) (λ k h e. omega arith))))
 
 same-length : tie.Need-same-length Inv-loop μ-loop
 same-length c = search needs

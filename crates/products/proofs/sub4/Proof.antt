@@ -8,7 +8,6 @@ use borrow.Author.Needs.{needs}
 use Rattle.areas.proofs.Touch as touch
 use Rattle.areas.specs.Touch.{Touched}
 use Rattle.products.specs.Products.{less}
-use Rattle.products.proofs.Floats.{sub-product}
 use Rattle.products.proofs.sub4.Statement.{statement}
 use Rattle.products.proofs.sub4.Tie as tie
 
@@ -108,17 +107,8 @@ loop-less c = search needs
 loop-again : tie.Need-loop-again Inv-loop μ-loop
 loop-again c =
     let loop′ = c .before .before .before .before .before .before .loop in
-    let args′ = c .before .before .before .before .before .before .before .before .before .before .before .args in (
-      omega arith,
-      touch.more nan _ _ _ _ _ _ _ (loop′ .inv .1) refl (omega arith) (λ k h e. omega arith)
-          (sub-product _
-          (sub-product _
-          (sub-product _
-          (sub-product _ (loop′ .inv .1 .outside (args′ .dst + loop′ .i) (λ k h e. omega arith)) (loop′ .inv .1 .outside (args′ .s0 + loop′ .i) (λ k h e. omega arith)))
-          (loop′ .inv .1 .outside (args′ .s1 + loop′ .i) (λ k h e. omega arith)))
-          (loop′ .inv .1 .outside (args′ .s2 + loop′ .i) (λ k h e. omega arith)))
-          (loop′ .inv .1 .outside (args′ .s3 + loop′ .i) (λ k h e. omega arith))),
-    )
+    let args′ = c .before .before .before .before .before .before .before .before .before .before .before .args in
+    (omega arith, touch.more nan _ _ _ _ _ _ _ (loop′ .inv .1) refl (omega arith) (λ k h e. omega arith) (rw (loop′ .inv .1 .outside (args′ .dst + loop′ .i) (λ k h e. omega arith), loop′ .inv .1 .outside (args′ .s0 + loop′ .i) (λ k h e. omega arith), loop′ .inv .1 .outside (args′ .s1 + loop′ .i) (λ k h e. omega arith), loop′ .inv .1 .outside (args′ .s2 + loop′ .i) (λ k h e. omega arith), loop′ .inv .1 .outside (args′ .s3 + loop′ .i) (λ k h e. omega arith))))
 
 same-length : tie.Need-same-length Inv-loop μ-loop
 same-length c = search needs

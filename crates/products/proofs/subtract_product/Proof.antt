@@ -9,7 +9,7 @@ use Rattle.statement.specs.Input.{+0}
 use Rattle.areas.specs.Touch.{Touched}
 use Rattle.areas.proofs.Touch as touch
 use Rattle.products.specs.Products.{plus}
-use Rattle.products.proofs.Floats.{sub-sum}
+use Rattle.products.proofs.Floats.{zero-is}
 use Rattle.products.proofs.subtract_product.Statement.{statement}
 use Rattle.products.proofs.subtract_product.Tie as tie
 
@@ -63,12 +63,9 @@ loop-less c = search needs
 
 loop-again : tie.Need-loop-again Inv-loop μ-loop
 loop-again c =
-    let l = c .before .before .before .loop in
-    let a = c .before .before .before .before .before .args in (
-      omega arith,
-      touch.more nan _ _ _ _ _ _ _ (l .inv .1) refl (omega arith) (λ k h e. omega arith)
-          (sub-sum _ (l .inv .1 .outside (a .dst + l .i) (λ k h e. omega arith)) (l .inv .1 .outside (a .src + l .i) (λ k h e. omega arith))),
-    )
+    let loop′ = c .before .before .before .loop in
+    let args′ = c .before .before .before .before .before .args in
+    (omega arith, touch.more nan _ _ _ _ _ _ _ (loop′ .inv .1) refl (omega arith) (λ k h e. omega arith) (rw (loop′ .inv .1 .outside (args′ .dst + loop′ .i) (λ k h e. omega arith), loop′ .inv .1 .outside (args′ .src + loop′ .i) (λ k h e. omega arith), zero-is)))
 
 same-length : tie.Need-same-length Inv-loop μ-loop
 same-length c = search needs

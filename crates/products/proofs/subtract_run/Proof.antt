@@ -7,7 +7,6 @@ use lib.ListN.{getD}
 use lib.Ieee.{nan, binary64, sub}
 use Rattle.areas.specs.Touch.{Touched}
 use Rattle.areas.proofs.Touch as touch
-use Rattle.products.proofs.Floats.{sub-left}
 use Rattle.products.proofs.subtract_run.Statement.{statement}
 use Rattle.products.proofs.subtract_run.Tie as tie
 
@@ -51,7 +50,10 @@ loop-less : tie.Need-loop-less Inv-loop μ-loop
 loop-less c = search needs
 
 loop-again : tie.Need-loop-again Inv-loop μ-loop
-loop-again c = (omega arith, touch.more nan _ _ _ _ _ _ _ (c .before .before .before .loop .inv .1) refl (omega arith) (λ k h e. omega arith) (sub-left _ (c .before .before .before .loop .inv .1 .outside (c .before .before .before .before .args .at + c .before .before .before .loop .i) (λ k h e. omega arith))))
+loop-again c =
+    let loop′ = c .before .before .before .loop in
+    let args′ = c .before .before .before .before .args in
+    (omega arith, touch.more nan _ _ _ _ _ _ _ (loop′ .inv .1) refl (omega arith) (λ k h e. omega arith) (rw (loop′ .inv .1 .outside (args′ .at + loop′ .i) (λ k h e. omega arith))))
 
 same-length : tie.Need-same-length Inv-loop μ-loop
 same-length c = search needs

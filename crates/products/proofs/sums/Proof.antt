@@ -30,14 +30,15 @@ set1-requires : tie.Need-set1-requires
 set1-requires c κs =
     let args′ = c .before .before .before .before .before .args in
     let pre′ = c .before .before .before .before .before .pre in
-    let h : args′ .q + (args′ .m - args′ .q) ≤ length (args′ .v .now) = rise.at-in (args′ .m) 0 (args′ .q) (args′ .kw) (args′ .q) _ (omega arith) (pre′ .0) (pre′ .1) (rise.at-first (args′ .m) (args′ .q)) (pre′ .3) in (omega arith, omega arith, omega arith)
+    let h : args′ .q + (args′ .m - args′ .q) ≤ length (args′ .v .now) = rise.at-in (args′ .m) 0 (args′ .q) (args′ .kw) (args′ .q) _ (omega arith) (pre′ .0) (pre′ .1) (rise.at-first (args′ .m) (args′ .q)) (pre′ .3) in
+    (omega arith, omega arith, omega arith)
 
 by-ones-requires : tie.Need-by-ones-requires
 by-ones-requires c κs =
     let pre′ = c .before .before .before .before .before .before .before .before .before .pre in
     let args′ = c .before .before .before .before .before .before .before .before .before .args in
     let set1′ = c .before .before .before .set1 in
-    rise.begun _ 1 (pre′) (rise.summed-1 _ (args′ .v .now) (args′ .m) (args′ .q) (args′ .m - args′ .q) _ (set1′ .ensures)) (omega arith)
+    rise.begun _ 1 pre′ (rise.summed-1 _ (args′ .v .now) (args′ .m) (args′ .q) (args′ .m - args′ .q) _ (set1′ .ensures)) (omega arith)
 
 same-length-2 : tie.Need-same-length-2
 same-length-2 c =
@@ -74,7 +75,8 @@ set4-requires : tie.Need-set4-requires
 set4-requires c κs =
     let args′ = c .before .before .before .before .before .args in
     let pre′ = c .before .before .before .before .before .pre in
-    let f = rise.four (args′ .m) 0 (args′ .q) (args′ .kw) _ (args′ .q) _ _ _ _ (omega arith) (pre′ .0) (pre′ .1) (pre′ .3) (rise.at-first (args′ .m) (args′ .q)) refl refl refl refl in (rise.some _ _ (pre′ .1), f .in₀, f .in₁, f .in₂, f .in₃, pre′ .4)
+    let f = rise.four (args′ .m) 0 (args′ .q) (args′ .kw) _ (args′ .q) _ _ _ _ (omega arith) (pre′ .0) (pre′ .1) (pre′ .3) (rise.at-first (args′ .m) (args′ .q)) refl refl refl refl in
+    (rise.some _ _ (pre′ .1), f .in₀, f .in₁, f .in₂, f .in₃, pre′ .4)
 
 by-eights-requires : tie.Need-by-eights-requires
 by-eights-requires c κs =
@@ -82,7 +84,7 @@ by-eights-requires c κs =
     let args′ = c .before .before .before .before .before .before .before .before .before .args in
     let if2′ = c .before .before .before .before .before .if2 in
     let set4′ = c .before .before .before .set4 in
-    rise.begun _ 4 (pre′) (rise.summed-4 _ (args′ .v .now) (args′ .m) (args′ .q) (args′ .m - args′ .q) _ _ _ _ _ _ (omega (arith, pre′ .0, if2′ .left)) (rise.four (args′ .m) 0 (args′ .q) (args′ .kw) _ (args′ .q) _ _ _ _ (omega arith) (pre′ .0) (pre′ .1) (pre′ .3) (rise.at-first (args′ .m) (args′ .q)) refl refl refl refl) (set4′ .ensures)) (omega arith)
+    rise.begun _ 4 pre′ (rise.summed-4 _ (args′ .v .now) (args′ .m) (args′ .q) (args′ .m - args′ .q) _ _ _ _ _ _ (omega (arith, pre′ .0, if2′ .left)) (rise.four (args′ .m) 0 (args′ .q) (args′ .kw) _ (args′ .q) _ _ _ _ (omega arith) (pre′ .0) (pre′ .1) (pre′ .3) (rise.at-first (args′ .m) (args′ .q)) refl refl refl refl) (set4′ .ensures)) (omega arith)
 
 same-length-3 : tie.Need-same-length-3
 same-length-3 c =
