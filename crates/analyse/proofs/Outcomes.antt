@@ -40,7 +40,7 @@ module _ (M : Matrix) (cap : ℕ) (r : Room) (f : r .floats ≡ ample) (v : r .v
       → Zeroed p₀ f₀ s₀ g₀ t₀ o₀ w₀ n₀ p f s g t o w n → Lengths r p₀ f₀ s₀ g₀ t₀ o₀ w₀ n₀ → SettlesPlain (analyse M cap r) x p f s g t o w n
   unfolding analyse structureRoom cleared
   plain-refused x a e k h q z l =
-      let b = blank-of r z l in
+      let b = blank-of r (z .lists) l in
       let d : x ≡ analyse M cap r .returned = refused-out _ _ _ _ x a e k h (q ∙ ap answered (same-fault M cap r f v)) in
       let c = refused-areas (structureRoom r) _ _ _ (λ j. h (sym e ∙ ap (λ y. y .answer) d ∙ j)) in
       record {
@@ -51,8 +51,8 @@ module _ (M : Matrix) (cap : ℕ) (r : Room) (f : r .floats ≡ ample) (v : r .v
         four = b .four ∙ sym (ap (λ a. a .groups) c);
         five = b .five ∙ sym (ap (λ a. a .tasks) c);
         six = b .six ∙ sym (ap (λ a. a .top) c);
-        seven = b .seven ∙ sym (ap (λ a. a .words) c);
-        nine-holds = b .nine-holds ∙ sym (ap (λ a. a .rows) c);
+        seven = z .seven ∙ ap (λ m. replicate m 0) (l .seven) ∙ sym (ap (λ a. a .words) c);
+        nine-holds = z .nine ∙ ap (λ m. replicate m 0) (l .nine-long) ∙ sym (ap (λ a. a .rows) c);
       }
 
   -- ---- acceptance

@@ -9,6 +9,7 @@ ghost use Rattle.survey.specs.Settles.{SettlesPlain};
 ghost use Rattle.analyse.specs.Lent.{lentStructure};
 use answers::refused;
 use areas::clear_words;
+use clearing::clear_lists;
 use clearing::clear_structure;
 use listing::lay;
 use statement::Answer;
@@ -47,7 +48,7 @@ fn accepted(n: usize, s: Findings, c: Cuts) -> Outcome
     }
 }
 
-// The areas are cleared, whatever they hold, and surveyed; area 10 is only so long.
+// Areas 1 to 6 are cleared, whatever they hold, and all are surveyed; area 10 is only so long.
 fn begin(
     n: usize,
     input_starts: &[usize],
@@ -79,7 +80,7 @@ fn begin(
         updates: long,
         values: AMPLE,
     };
-    clear_structure(permutation, firsts, starts, groups, tasks, top, words, rows);
+    clear_lists(permutation, firsts, starts, groups, tasks, top);
     survey(
         n,
         input_starts,

@@ -20,31 +20,27 @@ use Rattle.begin.specs.Begun.{Begun, zeroFloats}
 use Rattle.begin.specs.Ordered.{orderTest, Tested}
 use Rattle.begin.proofs.Handing.{moved}
 
--- the survey was made in the room r, which is r′ by the lengths
-module _ (M : Matrix) (cap : ℕ) (o : Order) (l : List ℕ) (e : Stop) {r r′ : Room} (er : r ≡ r′) (s : Findings) {permutation firsts starts groups tasks words₁ nine : List ℕ} (d : Surveyed M cap r s permutation firsts starts groups tasks words₁ nine) where
-  d′ : Surveyed M cap r′ s permutation firsts starts groups tasks words₁ nine
-  d′ = rw er at d
-
-  pub refused-early : {permutation firsts starts groups tasks words : List ℕ} {floats : List Float} {nine : List ℕ} {values : List Float} → s .answer ≢ Accepted → Begun M cap o l e r′ s permutation firsts starts groups tasks words floats nine values
+module _ (M : Matrix) (cap : ℕ) (o : Order) (l : List ℕ) (e : Stop) {r : Room} (s : Findings) {permutation firsts starts groups tasks words₁ nine : List ℕ} (d : Surveyed M cap r s permutation firsts starts groups tasks words₁ nine) where
+  pub refused-early : {permutation firsts starts groups tasks words : List ℕ} {floats : List Float} {nine : List ℕ} {values : List Float} → s .answer ≢ Accepted → Begun M cap o l e r s permutation firsts starts groups tasks words floats nine values
   refused-early h = record {
-    ans = d′ .ans ∙ or-first (structureFault M cap r′) (orderTest M o l e) (λ z. h (d′ .ans ∙ z));
+    ans = d .ans ∙ or-first (structureFault M cap r) (orderTest M o l e) (λ z. h (d .ans ∙ z));
     go = λ z. absurd (h z);
     idle = d .idle;
   }
 
   module _ (k : s .answer ≡ Accepted) {a : Answer} {words : List ℕ} {floats : List Float} (t : Tested M o l e (s .supernodes) a words₁ words floats) where
-    late : a ≡ answered (orElse (structureFault M cap r′) (orderTest M o l e))
-    late = t .ans ∙ sym (ap answered (or-next (structureFault M cap r′) (orderTest M o l e) (d′ .go k .calm)))
+    late : a ≡ answered (orElse (structureFault M cap r) (orderTest M o l e))
+    late = t .ans ∙ sym (ap answered (or-next (structureFault M cap r) (orderTest M o l e) (d .go k .calm)))
 
-    pub refused-late : (x : Findings) {permutation firsts starts groups tasks words : List ℕ} {floats : List Float} {nine : List ℕ} {values : List Float} → a ≢ Accepted → (x .answer ≡ a) × (x .supernodes ≡ 0) → Begun M cap o l e r′ x permutation firsts starts groups tasks words floats nine values
+    pub refused-late : (x : Findings) {permutation firsts starts groups tasks words : List ℕ} {floats : List Float} {nine : List ℕ} {values : List Float} → a ≢ Accepted → (x .answer ≡ a) × (x .supernodes ≡ 0) → Begun M cap o l e r x permutation firsts starts groups tasks words floats nine values
     refused-late x h q = record { ans = q .0 ∙ late; go = λ z. absurd (h (sym (q .0) ∙ z)); idle = λ _. q .1 }
 
-    pub begun : a ≡ Accepted → {values : List Float} → values ≡ zeroFloats (r′ .values) → length words ≡ length words₁ → length words ≡ r′ .words → length floats ≡ r′ .floats
-        → Begun M cap o l e r′ s permutation firsts starts groups tasks words floats nine values
+    pub begun : a ≡ Accepted → {values : List Float} → values ≡ zeroFloats (r .values) → length words ≡ length words₁ → length words ≡ r .words → length floats ≡ r .floats
+        → Begun M cap o l e r s permutation firsts starts groups tasks words floats nine values
     begun h v lw ww lf = record {
       ans = k ∙ sym h ∙ late;
       go = λ _. record {
-        laid = moved (d′ .go k) words lw (t .go h .1);
+        laid = moved (d .go k) words lw (t .go h .1);
         ordered = t .go h .0;
         zero = v;
         words-long = ww;

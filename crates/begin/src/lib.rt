@@ -6,13 +6,15 @@ ghost use Rattle.statement.specs.Input.{matrix};
 ghost use Rattle.ready.specs.Known.{Known};
 ghost use Rattle.begin.specs.Begun.{lentAll, Begun, Steps};
 ghost use Rattle.begin.specs.Ordered.{Tested};
-use clearing::clear_all;
+use areas::clear_floats;
+use clearing::clear_lists;
 use order::names;
 use order::order_fault;
 use order::stop_at;
 use ready::ready;
 use statement::Answer;
 use statement::Order;
+use statement::Room;
 use statement::Stop;
 use survey::Findings;
 use survey::refused;
@@ -64,8 +66,8 @@ fn prepare(
     b
 }
 
-// The structure over areas that it clears, number 8, and what the run reads; long is area 10's length. Where it is refused, what it
-// leaves in the areas is not said.
+// The structure, number 8, and what the run reads, over areas 1 to 6 and values that it clears; the scratch and area 9 are written
+// whole, and long is area 10's length. Where it is refused, what it leaves in the areas is not said.
 pub fn begin(
     n: usize,
     input_starts: &[usize],
@@ -89,19 +91,21 @@ pub fn begin(
 ) -> Findings
     ensures { λ x. ⌜ Begun (matrix n (now («input_starts» .entry)) (now («input_rows» .entry)) (now («input_values» .entry))) cap order (now (list .entry)) stop (lentAll (length (now (permutation .entry))) (length (now (firsts .entry))) (length (now (starts .entry))) (length (now (groups .entry))) (length (now (tasks .entry))) (length (now (top .entry))) (length (now (words .entry))) (length (now (floats .entry))) (length (now (rows .entry))) long (length (now (values .entry)))) x (now (permutation .exit)) (now (firsts .exit)) (now (starts .exit)) (now (groups .exit)) (now (tasks .exit)) (now (words .exit)) (now (floats .exit)) (now (rows .exit)) (now (values .exit)) ⌝ }
 {
-    let room = clear_all(
-        permutation,
-        firsts,
-        starts,
-        groups,
-        tasks,
-        top,
-        words,
-        floats,
-        rows,
-        values,
-        long,
-    );
+    let room = Room {
+        permutation: permutation.len(),
+        firsts: firsts.len(),
+        starts: starts.len(),
+        groups: groups.len(),
+        tasks: tasks.len(),
+        top: top.len(),
+        words: words.len(),
+        floats: floats.len(),
+        rows: rows.len(),
+        updates: long,
+        values: values.len(),
+    };
+    clear_lists(permutation, firsts, starts, groups, tasks, top);
+    clear_floats(values);
     let x = survey(
         n,
         input_starts,

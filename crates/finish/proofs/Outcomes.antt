@@ -118,23 +118,23 @@ module _ (M : Matrix) (cap : ℕ) (o : Order) (l : List ℕ) (e : Stop) (r : Roo
       → FactorSettlesPlain (factor M cap o l e r) x p f s g t u w floats n values
   unfolding factor cleared
   settles-refused x a x₀ v₀ q m h c z y k lx lv =
-      let b = blank-of r z k in
+      let b = blank-of r (z .lists) k in
       let out = refused-out r fault _ _ x a q m h c in
-      let k = refused-areas r fault _ _ (λ k. h (sym q ∙ ap (λ y. y .answer) out ∙ k)) in
+      let d = refused-areas r fault _ _ (λ k. h (sym q ∙ ap (λ y. y .answer) out ∙ k)) in
       record {
         structure = record {
           out = out;
-          one = b .one ∙ sym (ap (λ a. a .permutation) k);
-          two = b .two ∙ sym (ap (λ a. a .firsts) k);
-          three = b .three ∙ sym (ap (λ a. a .starts) k);
-          four = b .four ∙ sym (ap (λ a. a .groups) k);
-          five = b .five ∙ sym (ap (λ a. a .tasks) k);
-          six = b .six ∙ sym (ap (λ a. a .top) k);
-          seven = b .seven ∙ sym (ap (λ a. a .words) k);
-          nine-holds = b .nine-holds ∙ sym (ap (λ a. a .rows) k);
+          one = b .one ∙ sym (ap (λ a. a .permutation) d);
+          two = b .two ∙ sym (ap (λ a. a .firsts) d);
+          three = b .three ∙ sym (ap (λ a. a .starts) d);
+          four = b .four ∙ sym (ap (λ a. a .groups) d);
+          five = b .five ∙ sym (ap (λ a. a .tasks) d);
+          six = b .six ∙ sym (ap (λ a. a .top) d);
+          seven = z .seven ∙ ap (λ m. replicate m 0) (k .seven) ∙ sym (ap (λ a. a .words) d);
+          nine-holds = z .nine ∙ ap (λ m. replicate m 0) (k .nine-long) ∙ sym (ap (λ a. a .rows) d);
         };
-        eight = y .0 ∙ ap (λ m. zeroFloats m) lx ∙ sym (ap (λ a. a .floats) k);
-        eleven = y .1 ∙ ap (λ m. zeroFloats m) lv ∙ sym (ap (λ a. a .values) k);
+        eight = y .0 ∙ ap (λ m. zeroFloats m) lx ∙ sym (ap (λ a. a .floats) d);
+        eleven = y .1 ∙ ap (λ m. zeroFloats m) lv ∙ sym (ap (λ a. a .values) d);
       }
 
   -- ---- acceptance

@@ -94,7 +94,6 @@ pub fn finish(
             floats,
             rows,
             values,
-            long,
         );
         return refused(a);
     };

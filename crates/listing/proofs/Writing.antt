@@ -1,22 +1,23 @@
 -- The updates as they are written, source by source. Assumes nothing.
 use mathlib.Core.Path.{_≡_, refl, sym, ap, ap₂, _∙_}
-use mathlib.Core.List.{List, _++_, append-nil}
-use Prim.Native.Nat.{ℕ, suc, _+_, _*_, _<_}
+use mathlib.Core.List.{List, [], _++_, append-nil}
+use Prim.Native.Nat.{ℕ, zero, suc, _+_, _-_, _*_, _≤_, _<_}
 use native.Mathlib.Omega.{arith}
 use native.Mathlib.Nat.{le-refl}
-use lib.ListN.{length, getD, set, take, drop, replicate}
-use lib.Seq.{drop-length, getD-drop}
-use Rattle.statement.specs.Supernodes.{updates}
-use Rattle.statement.specs.Areas.{noUpdate}
+use lib.ListN.{length, getD, set, take, drop, replicate, length-drop, drop-of-length-le}
+use lib.Seq.{getD-drop, take-at}
+use Rattle.statement.specs.Shape.{Shape, supernodes}
+use Rattle.statement.specs.Supernodes.{updatesOf, updates}
+use Rattle.statement.specs.Areas.{noUpdate, held}
 use Rattle.statement.specs.declared.Update.{Update}
-use Rattle.areas.specs.Buckets.{Beyond}
-use Rattle.areas.proofs.Buckets.{beyond-same, beyond-by}
-use Rattle.areas.proofs.Held.{held-over}
+use Rattle.areas.specs.Buckets.{start, Beyond}
+use Rattle.areas.proofs.Buckets.{beyond-same, beyond-by, start-suc}
 use Rattle.updates.specs.Scan.{shaped, Put}
 use Rattle.updates.specs.Layout.{placesAt, updatesAt, ownersAt}
 use Rattle.updates.specs.Laying.{said, written, ToLay, ToScan, Scanned, LaidOut}
 use Rattle.updates.proofs.Passes.{put-begin, put-over}
-use Rattle.listing.specs.Writing.{ToWrite, Wrote}
+use Rattle.updates.proofs.Grouped.{updates-length, updates-start}
+use Rattle.listing.specs.Writing.{ToWrite, lastPlace, Wrote}
 
 -- ---- one source
 
@@ -36,6 +37,18 @@ unfolding written
 written-next k i spots us e p u s = rw (s, p, u, e) refl
 
 -- ---- all
+
+-- the word that says where the last target goes on
+pub last-is : (n ns : ℕ) (words : List ℕ) → 0 < ns → getD words (n + ns) 0 ≡ lastPlace ns n words
+last-is n zero words h = absurd (omega arith)
+last-is n (suc J) words h = ap (λ x. getD words x 0) (let z : n + suc J ≡ placesAt n + J = omega arith in z) ∙ sym (getD-drop (placesAt n) words J 0)
+
+-- where the last target goes on once all are put
+pub put-last : (S : Shape) (n ns : ℕ) (words : List ℕ) {us : List Update} → ns ≡ supernodes S → Put S ns (drop (placesAt n) words) us → 0 < ns → lastPlace ns n words ≡ length (updates S)
+put-last S n zero words q w h = absurd (omega arith)
+put-last S n (suc J) words q w h =
+    w .here J (omega arith) ∙ ap (λ x. start (updatesOf S) J + x) (sym (updates-length S J (suc J) (omega arith))) ∙
+    sym (start-suc noUpdate (updatesOf S) J) ∙ ap (start (updatesOf S)) q ∙ updates-start S
 
 -- the updates by the sources below k stand in their places
 pub record Writing (n ns : ℕ) (input-starts input-rows words words′ : List ℕ) (us us′ : List Update) (k : ℕ) : Type 0 where
@@ -92,20 +105,41 @@ module _ {n ns : ℕ} {starts rows firsts from list words : List ℕ} {us : List
   writing-over w = record {
     none = w .none;
     all = λ h. put-over (shaped n starts rows) ns (pre h .laid .number) (w .put h) (w .beyond) (le-refl ns) (le-refl ns);
+    behind = λ h. put-last (shaped n starts rows) n ns _ (pre h .laid .number) (w .put h) h;
     flags = w .flags;
     rest = w .rest;
   }
 
 -- ---- laid
 
--- none at first
-pub cleared : (us : List Update) {us′ : List Update} → us′ ≡ replicate (length us) noUpdate ++ drop (length us) us → us′ ≡ replicate (length us) noUpdate
-cleared us e = e ∙ ap (λ l. replicate (length us) noUpdate ++ l) (drop-length us) ∙ append-nil _
+-- a part, and behind it none
+held-behind : (part d : List Update) {l l′ : List Update} (m k : ℕ) → k ≡ length part → l ≡ part ++ d → length l ≡ m → l′ ≡ take k l ++ replicate (m - k) noUpdate ++ drop m l → l′ ≡ held m noUpdate part
+unfolding held
+held-behind part d {l} m k e f s g =
+    g ∙ ap (λ x. take k l ++ replicate (m - k) noUpdate ++ x) (drop-of-length-le l {i = m} (omega (arith, s))) ∙ append-nil _ ∙
+    ap₂ (λ x y. x ++ replicate (m - y) noUpdate) (ap (take k) f ∙ take-at part d k (sym e)) e
 
-pub laid-out : {n ns : ℕ} {starts rows words words′ : List ℕ} {us us′ us″ : List Update} → us′ ≡ replicate (length us) noUpdate → Wrote n ns starts rows words words′ us′ us″ → LaidOut n ns starts rows words words′ us us″
-laid-out {us} e w = record {
-  none = λ z. w .none z ∙ e;
-  all = λ h. held-over (length us) noUpdate _ _ refl e (w .all h);
+pub laid-out : {n ns : ℕ} {starts rows words words′ : List ℕ} {us us′ us″ : List Update} {total : ℕ} → Wrote n ns starts rows words words′ us us′ → length us′ ≡ length us → total ≡ lastPlace ns n words′
+    → us″ ≡ take total us′ ++ replicate (length us - total) noUpdate ++ drop (length us) us′ → LaidOut n ns starts rows words words′ us us″
+laid-out {n} {ns} {starts} {rows} {words′} {us} {us′} {total} w same place e = record {
+  none = λ z. held-behind [] us′ (length us) total (place ∙ ap (λ x. lastPlace x n words′) z) refl same e ∙ held-none (length us);
+  all = λ h. held-behind (updates (shaped n starts rows)) _ (length us) total (place ∙ w .behind h) (w .all h) same e;
   flags = w .flags;
   rest = w .rest;
 }
+  where
+    held-none : (m : ℕ) → held m noUpdate [] ≡ replicate m noUpdate
+    held-none m = unfold held in ap (λ x. replicate x noUpdate) (let q : m - 0 ≡ m = omega arith in q)
+
+-- it is cleared within
+pub behind-asked : {n ns : ℕ} {starts rows firsts from list words words′ : List ℕ} {us us′ : List Update} {total : ℕ} → (0 < ns → ToLay n ns starts rows firsts from list words (length us)) → Wrote n ns starts rows words words′ us us′ → length us′ ≡ length us → total ≡ lastPlace ns n words′
+    → (total ≤ length us) × (length us ≤ length us′)
+behind-asked {n} {ns} {words′} {us} {total} pre w same place = (go ns refl, omega (arith, same))
+  where
+    go : (k : ℕ) → k ≡ ns → total ≤ length us
+    go zero e = omega (arith, place, ap (λ x. lastPlace x n words′) (sym e))
+    go (suc J) e = let h : 0 < ns = omega arith in omega (arith, place, w .behind h, pre h .fits)
+
+-- the last target's next place is among the words
+pub last-asked : {n ns : ℕ} {starts rows firsts from list words : List ℕ} {long : ℕ} → (0 < ns → ToLay n ns starts rows firsts from list words long) → (words′ : List ℕ) → length words′ ≡ length words → 0 < ns → n + ns < length words′
+last-asked {n} {words} pre words′ same h = omega (arith, same, length-drop (placesAt n) words, pre h .next .fits, pre h .room)

@@ -4,9 +4,9 @@ ghost use Prim.Native.Nat.{_+_, _*_, _≤_, _<_};
 ghost use lib.ListN.{length, getD, drop};
 ghost use Rattle.updates.specs.Layout.{updatesAt, offsetsAt};
 ghost use Rattle.updates.specs.Laying.{said, written, ToLay, LaidOut};
-ghost use Rattle.listing.specs.Writing.{ToWrite, Wrote};
+ghost use Rattle.listing.specs.Writing.{ToWrite, lastPlace, Wrote};
 use statement::Update;
-use update::clear;
+use update::clear_between;
 use update::put_update;
 use updates::scan_one;
 
@@ -78,6 +78,17 @@ fn write_all(
     }
 }
 
+// How many are written: the next place of the last target, 0 where there is none.
+fn last_place(ns: usize, n: usize, words: &[usize]) -> usize
+    requires { ⌜ (0 < ns → n + ns < length (now words)) ⌝ }
+    ensures { λ r. ⌜ r ≡ lastPlace ns n (now (words .entry)) ⌝ }
+{
+    if ns == 0 {
+        return 0;
+    }
+    words[n + ns]
+}
+
 // Area 10: the updates of all ns supernodes, grouped by target, lower supernode first; the rest none.
 pub fn lay(
     ns: usize,
@@ -93,7 +104,6 @@ pub fn lay(
     requires { ⌜ (0 < ns → ToLay n ns (now «input_starts») (now «input_rows») (now firsts) (now starts) (now rows) (now words) (length (now us))) ⌝ }
     ensures { λ _. ⌜ LaidOut n ns (now («input_starts» .entry)) (now («input_rows» .entry)) (now (words .entry)) (now (words .exit)) (now (us .entry)) (now (us .exit)) ⌝ }
 {
-    clear(us, us.len());
     write_all(
         ns,
         n,
@@ -105,4 +115,6 @@ pub fn lay(
         words,
         us,
     );
+    let total = last_place(ns, n, words);
+    clear_between(us, total, us.len());
 }

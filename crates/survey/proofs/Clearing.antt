@@ -4,7 +4,7 @@ use mathlib.Core.List.{List}
 use Prim.Native.Nat.{ℕ}
 use lib.ListN.{length, replicate}
 use Rattle.statement.specs.declared.Room.{Room}
-use Rattle.clearing.specs.Zeroed.{Zeroed}
+use Rattle.clearing.specs.Zeroed.{ListsZeroed}
 use Rattle.survey.specs.Laid.{Blank}
 
 -- the room that areas 1 to 7 and 9 give
@@ -21,7 +21,7 @@ pub record Lengths (r : Room) (permutation firsts starts groups tasks top words 
 cleared-blank : (m : ℕ) (d : List ℕ) {l : List ℕ} → length d ≡ m → l ≡ replicate (length d) 0 → l ≡ replicate m 0
 cleared-blank m d k e = e ∙ ap (λ x. replicate x 0) k
 
-module _ (r : Room) {p₀ f₀ s₀ g₀ t₀ o₀ w₀ n₀ p f s g t o w n : List ℕ} (z : Zeroed p₀ f₀ s₀ g₀ t₀ o₀ w₀ n₀ p f s g t o w n) (l : Lengths r p₀ f₀ s₀ g₀ t₀ o₀ w₀ n₀) where
+module _ (r : Room) {p₀ f₀ s₀ g₀ t₀ o₀ w n p f s g t o : List ℕ} (z : ListsZeroed p₀ f₀ s₀ g₀ t₀ o₀ p f s g t o) (l : Lengths r p₀ f₀ s₀ g₀ t₀ o₀ w n) where
   pub blank-of : Blank r p f s g t o w n
   blank-of = record {
     one = cleared-blank (r .permutation) p₀ (l .one) (z .one);
@@ -30,6 +30,6 @@ module _ (r : Room) {p₀ f₀ s₀ g₀ t₀ o₀ w₀ n₀ p f s g t o w n : L
     four = cleared-blank (r .groups) g₀ (l .four) (z .four);
     five = cleared-blank (r .tasks) t₀ (l .five) (z .five);
     six = cleared-blank (r .top) o₀ (l .six) (z .six);
-    seven = cleared-blank (r .words) w₀ (l .seven) (z .seven);
-    nine-holds = cleared-blank (r .rows) n₀ (l .nine-long) (z .nine);
+    seven = l .seven;
+    nine-long = l .nine-long;
   }

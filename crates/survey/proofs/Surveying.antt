@@ -4,9 +4,9 @@ use mathlib.Core.Logic.{_≢_}
 use mathlib.Core.Bool.{Bool}
 use mathlib.Core.List.{List, _++_}
 use mathlib.Core.Option.{none}
-use Prim.Native.Nat.{ℕ, suc, _+_, _*_, _≤_}
+use Prim.Native.Nat.{ℕ, suc, _+_, _-_, _*_, _≤_}
 use native.Mathlib.Omega.{arith}
-use lib.ListN.{length, take, drop, replicate}
+use lib.ListN.{length, take, drop, replicate, length-append}
 use Rattle.statement.specs.Lists.{list}
 use Rattle.statement.specs.Input.{Matrix, WellFormed, pattern}
 use Rattle.statement.specs.Fill.{parent, count, entries}
@@ -19,7 +19,7 @@ use Rattle.statement.specs.Calls.{analysis, factorNeeds, factorLater, later}
 use Rattle.statement.specs.declared.Answer.{Answer}
 use Rattle.statement.specs.declared.Answer.the-variants.{Accepted, WrongStructure}
 use Rattle.statement.specs.declared.Room.{Room}
-use Rattle.laws.specs.Numbered.{factored, shapeFor}
+use Rattle.laws.specs.Numbered.{factored, shape, shapeFor}
 use Rattle.laws.proofs.Exactly.{structure-never}
 use Rattle.laws.proofs.Stages.{short-passed}
 use Rattle.laws.proofs.Input.{upper}
@@ -37,7 +37,7 @@ use Rattle.analysis.specs.Phases.{Enough, Numbered, Analysed, laterNeeds}
 use Rattle.updates.specs.Layout.{placesAt, ownersAt}
 use Rattle.survey.specs.Laid.{structureFault, Laid, Surveyed, Blank}
 use Rattle.survey.specs.declared.Findings.{Findings}
-use Rattle.survey.proofs.Zeros.{zeros-over, zeros-length}
+use Rattle.survey.proofs.Zeros.{zeros-over, zeros-length, zeros-after}
 use Rattle.survey.proofs.Laying.{to-lay}
 
 module _ (M : Matrix) (cap : ℕ) (r : Room) where
@@ -100,7 +100,7 @@ module _ (M : Matrix) (cap : ℕ) (r : Room) {permutation₀ firsts₀ starts₀
   -- ---- what the building asks
 
   pub words-long : 24 * M .n + 24 ≤ length words₀
-  words-long = omega (arith, l .seven, zeros-length 0 {m = r .words} (blank .seven))
+  words-long = omega (arith, l .seven, blank .seven)
 
   pub groups-long : M .n + 1 ≤ length groups₀
   groups-long = omega (arith, l .four, zeros-length 0 {m = r .groups} (blank .four))
@@ -126,7 +126,7 @@ module _ (M : Matrix) (cap : ℕ) (r : Room) {permutation₀ firsts₀ starts₀
     -- ---- what it leaves
 
     module _ (x : Findings) (ns : ℕ) {permutation firsts starts groups tasks owners nine : List ℕ}
-        (z : Analysed (pattern M) (M .n) (t .entries) r Accepted ns (x .rows) (x .updates) permutation₀ firsts₀ starts₀ groups₁ tasks₁ nine₀ permutation firsts starts groups tasks owners nine)
+        (z : Analysed (pattern M) (M .n) (t .entries) r Accepted ns (x .rows) (x .updates) permutation₀ firsts₀ starts₀ groups₁ tasks₁ (replicate (r .rows) 0) permutation firsts starts groups tasks owners nine)
         (xs : x .supernodes ≡ ns) (xe : x .entries ≡ t .entries) (xw : x .work ≡ t .work) where
       h : Numbered (pattern M) (M .n) ns (x .rows) permutation₀ firsts₀ starts₀ tasks₁ permutation firsts starts tasks owners
       h = z .numbered refl
@@ -167,7 +167,7 @@ module _ (M : Matrix) (cap : ℕ) (r : Room) {permutation₀ firsts₀ starts₀
         four = held-over (r .groups) 0 _ (suc ns) groups-many (ap (λ m. replicate m 0) groups-length) (z .four refl);
         rest = drop ns (drop (M .n) tasks₁);
         five = h .five;
-        nine-holds = held-over (r .rows) 0 _ _ refl (blank .nine-holds) (z .area-nine refl);
+        nine-holds = held-over (r .rows) 0 _ _ refl refl (z .area-nine refl);
         laying = rw xs (to-lay words d (sized .well .columns) (sized .well .small) z long o g (omega (arith, k, words-long)));
       }
 
@@ -176,3 +176,20 @@ pub accepted-form : {s : ℕ → ℕ → Bool} {n e : ℕ} {r : Room} {a : Answe
     → Analysed s n e r a ns rows updates permutation₀ firsts₀ starts₀ groups₀ tasks₀ nine₀ permutation firsts starts groups tasks words nine
     → Analysed s n e r Accepted ns rows updates permutation₀ firsts₀ starts₀ groups₀ tasks₀ nine₀ permutation firsts starts groups tasks words nine
 accepted-form q h = rw q at h
+
+-- ---- zeros behind the rows: as if area 9 had been zero before
+
+module _ {s : ℕ → ℕ → Bool} {n e : ℕ} {r : Room} {ns rows updates : ℕ} {permutation₀ firsts₀ starts₀ groups₀ tasks₀ nine₀ permutation firsts starts groups tasks words nine : List ℕ}
+    (z : Analysed s n e r Accepted ns rows updates permutation₀ firsts₀ starts₀ groups₀ tasks₀ nine₀ permutation firsts starts groups tasks words nine) where
+  pub rows-there : rows ≤ length nine
+  rows-there = omega (arith, z .numbered refl .many, ap length (z .area-nine refl), length-append (shape s n .rows) (drop (length (shape s n .rows)) nine₀))
+
+  pub zeros-behind : {nine′ : List ℕ} → length nine ≡ r .rows → nine′ ≡ take rows nine ++ replicate (length nine - rows) 0
+      → Analysed s n e r Accepted ns rows updates permutation₀ firsts₀ starts₀ groups₀ tasks₀ (replicate (r .rows) 0) permutation firsts starts groups tasks words nine′
+  zeros-behind k q = record {
+    answers = z .answers;
+    numbered = z .numbered;
+    count = z .count;
+    four = z .four;
+    area-nine = λ _. zeros-after (shape s n .rows) _ (r .rows) (z .numbered refl .many) (z .area-nine refl) k q;
+  }

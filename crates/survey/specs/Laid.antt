@@ -62,7 +62,7 @@ pub record Found (M : Matrix) (cap : ℕ) (r : Room) (x : Findings) (permutation
   pub words : List ℕ
   pub surveyed : Surveyed M cap r x permutation firsts starts groups tasks words nine
 
--- how long the areas but the updates are, and that they are zero
+-- how long the areas but the updates are, and that areas 1 to 6 are zero; what the words and area 9 hold is not said
 pub record Blank (r : Room) (permutation firsts starts groups tasks top words nine : List ℕ) : Type 0 where
   pub one : permutation ≡ replicate (r .permutation) 0
   pub two : firsts ≡ replicate (r .firsts) 0
@@ -70,5 +70,5 @@ pub record Blank (r : Room) (permutation firsts starts groups tasks top words ni
   pub four : groups ≡ replicate (r .groups) 0
   pub five : tasks ≡ replicate (r .tasks) 0
   pub six : top ≡ replicate (r .top) 0
-  pub seven : words ≡ replicate (r .words) 0
-  pub nine-holds : nine ≡ replicate (r .rows) 0
+  pub seven : length words ≡ r .words
+  pub nine-long : length nine ≡ r .rows

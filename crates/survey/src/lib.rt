@@ -5,6 +5,7 @@ ghost use Rattle.survey.specs.Settles.{staleOf};
 ghost use mathlib.Core.Path.{_≡_};
 use analysis::build;
 use areas::copy_part;
+use clearing::clear_behind;
 use measure::measure;
 use statement::Answer;
 use statement::Outcome;
@@ -33,7 +34,7 @@ pub fn refused(answer: Answer) -> Findings
     }
 }
 
-// The areas are zero before. Where it is accepted they hold the structure, tasks the places of the columns and then the
+// Areas 1 to 6 are zero before. Where it is accepted the areas hold the structure and zeros behind it, tasks the places of the columns and then the
 // supernodal parents, words the supernode of each column and where each target's updates start; top is scratch.
 pub fn survey(
     n: usize,
@@ -90,6 +91,7 @@ pub fn survey(
         return refused(b);
     };
     copy_part(c.supernodes, groups, &mut words[n + 1..]);
+    clear_behind(c.rows, rows);
     Findings {
         answer: Answer::Accepted,
         supernodes: c.supernodes,

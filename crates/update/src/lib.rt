@@ -2,8 +2,8 @@
 // walked by hand (tools/walk.py writes the longer walks).
 ghost use mathlib.Core.Path.{_≡_};
 ghost use mathlib.Core.List.{_++_};
-ghost use Prim.Native.Nat.{_≤_, _<_};
-ghost use lib.ListN.{length, getD, set, replicate, drop};
+ghost use Prim.Native.Nat.{_-_, _≤_, _<_};
+ghost use lib.ListN.{length, getD, set, replicate, take, drop};
 ghost use Rattle.statement.specs.Areas.{noUpdate};
 use statement::Update;
 
@@ -31,15 +31,23 @@ pub fn none() -> Update
     }
 }
 
+// Those from lo to below hi are none.
+pub fn clear_between(us: &mut [Update], lo: usize, hi: usize)
+    requires { ⌜ (lo ≤ hi) × (hi ≤ length (now us)) ⌝ }
+    ensures { λ _. ⌜ now (us .exit) ≡ take lo (now (us .entry)) ++ replicate (hi - lo) noUpdate ++ drop hi (now (us .entry)) ⌝ }
+{
+    let mut i = lo;
+    while i < hi {
+        let u = none();
+        put_update(us, i, u);
+        i += 1;
+    }
+}
+
 // The first n are none.
 pub fn clear(us: &mut [Update], n: usize)
     requires { ⌜ n ≤ length (now us) ⌝ }
     ensures { λ _. ⌜ now (us .exit) ≡ replicate n noUpdate ++ drop n (now (us .entry)) ⌝ }
 {
-    let mut i: usize = 0;
-    while i < n {
-        let u = none();
-        put_update(us, i, u);
-        i += 1;
-    }
+    clear_between(us, 0, n);
 }

@@ -68,7 +68,7 @@ returns c =
     let clear-all′ = c .before .before .before .before .before .before .before .before .before .before .before .before .before .before .before .before .before .before .before .before .before .clear-all in
     let M = matrix (args′ .n) (args′ .input-starts .now) (args′ .input-rows .now) (args′ .input-values .now) in
     let r = lentAll (length (args′ .permutation .now)) (length (args′ .firsts .now)) (length (args′ .starts .now)) (length (args′ .groups .now)) (length (args′ .tasks .now)) (length (args′ .top .now)) (length (args′ .words .now)) (length (args′ .floats .now)) (length (args′ .rows .now)) (args′ .long) (length (args′ .values .now)) in
-    settles-refused M (args′ .cap) (args′ .order) (args′ .list .now) (args′ .stop) r _ _ (args′ .floats .now) (args′ .values .now) (refused′ .ensures .0) (refused′ .ensures .1) (λ q. accepted-first (rw q at (match′ .keys2))) (told M (args′ .cap) (args′ .order) (args′ .list .now) (args′ .stop) r (args′ .x) (args′ .least) (pre′) (verdict′ .ensures)) (clear-all′ .ensures .0) (clear-all′ .ensures .1 .0) (record { one = refl; two = refl; three = refl; four = refl; five = refl; six = refl; seven = refl; nine-long = refl }) refl refl
+    settles-refused M (args′ .cap) (args′ .order) (args′ .list .now) (args′ .stop) r _ _ (args′ .floats .now) (args′ .values .now) (refused′ .ensures .0) (refused′ .ensures .1) (λ q. accepted-first (rw q at (match′ .keys2))) (told M (args′ .cap) (args′ .order) (args′ .list .now) (args′ .stop) r (args′ .x) (args′ .least) (pre′) (verdict′ .ensures)) (clear-all′ .ensures .0) (clear-all′ .ensures .1) (record { one = refl; two = refl; three = refl; four = refl; five = refl; six = refl; seven = refl; nine-long = refl }) refl refl
 
 split-requires : tie.Need-split-requires
 split-requires c κs =

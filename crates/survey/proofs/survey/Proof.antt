@@ -11,7 +11,7 @@ use Rattle.areas.proofs.Tail.{tail-length}
 use Rattle.analysis.proofs.Linked.{few-in}
 use Rattle.survey.proofs.Zeros.{zeros-length}
 use Rattle.survey.proofs.Laying.{owned, owned-length, owners-long, placed-length, places-in, owners-stay}
-use Rattle.survey.proofs.Surveying.{past-later, accepted-form, stopped, at-measure, at-later, words-long, parents-there, counts-there, enough, groups-long, laid}
+use Rattle.survey.proofs.Surveying.{past-later, accepted-form, stopped, at-measure, at-later, words-long, parents-there, counts-there, enough, groups-long, laid, rows-there, zeros-behind}
 use borrow.Author.Needs.{needs}
 use Rattle.survey.proofs.survey.Statement.{statement}
 use Rattle.survey.proofs.survey.Tie as tie
@@ -95,7 +95,7 @@ build-requires c κs =
     let pre′ = c .before .before .before .before .before .before .before .before .before .before .before .before .before .before .before .before .before .before .before .before .before .before .before .before .before .before .before .before .before .before .before .pre in
     let M = matrix (args′ .n) (args′ .input-starts .now) (args′ .input-rows .now) (args′ .input-values .now) in
     let z = measure′ .ensures .go (enum-told′ .given .1) in
-    ((z .well .columns, z .well .small), (enough M (args′ .cap) (args′ .room) pre′ _ _ _ _ z (omega (arith, measure′ .kept)) (omega (arith, measure′ .kept)) (omega (arith, measure′ .kept)) _ (omega (arith, tail-length (ownersAt (args′ .n)) (args′ .words .now) (omega (arith, words-long M (args′ .cap) (args′ .room) pre′ _ _ _ _ z)), words-long M (args′ .cap) (args′ .room) pre′ _ _ _ _ z)), ((parents-there M (args′ .cap) (args′ .room) pre′ _ _ _ _ z, counts-there M (args′ .cap) (args′ .room) pre′ _ _ _ _ z), zeros-length 0 (pre′ .nine-holds))))
+    ((z .well .columns, z .well .small), (enough M (args′ .cap) (args′ .room) pre′ _ _ _ _ z (omega (arith, measure′ .kept)) (omega (arith, measure′ .kept)) (omega (arith, measure′ .kept)) _ (omega (arith, tail-length (ownersAt (args′ .n)) (args′ .words .now) (omega (arith, words-long M (args′ .cap) (args′ .room) pre′ _ _ _ _ z)), words-long M (args′ .cap) (args′ .room) pre′ _ _ _ _ z)), ((parents-there M (args′ .cap) (args′ .room) pre′ _ _ _ _ z, counts-there M (args′ .cap) (args′ .room) pre′ _ _ _ _ z), sym (pre′ .nine-long))))
 
 enum-told-2 : tie.Need-enum-told-2
 enum-told-2 c = search needs
@@ -203,6 +203,13 @@ copy-part-requires c κs =
     let k = owned-length (args′ .n) w (build′ .last .1 .1 .1 .1 .1 .1 .1 .1 .1 .1 .1 .0) (omega (arith, long)) (build′ .kept .1 .1 .1 .1 .1 .1 .1 .1 .1 .1 .1 .0) in
     (omega (arith, few, groups-long M (args′ .cap) (args′ .room) pre′ _ _ _ _ z, (build′ .kept .1 .1 .1 .1 .1 .1 .1 .1 .0), measure′ .kept), omega (arith, few, long, k, tail-length (placesAt (args′ .n)) (owned (args′ .n) w (build′ .last .1 .1 .1 .1 .1 .1 .1 .1 .1 .1 .1 .0) (omega (arith, long)) (build′ .kept .1 .1 .1 .1 .1 .1 .1 .1 .1 .1 .1 .0)) (omega (arith, k, long))))
 
+clear-behind-requires : tie.Need-clear-behind-requires
+clear-behind-requires c κs =
+    let enum-told2′ = c .before .before .before .before .before .before .enum-told2 in
+    let build′ = c .before .before .before .before .before .before .before .before .before .before .before .before .before .before .before .before .before .before .before .before .before .before .before .before .build in
+    let b = accepted-form (enum-told2′ .given .1) (build′ .ensures) in
+    rows-there b
+
 same-length-12 : tie.Need-same-length-12
 same-length-12 c = search needs
 
@@ -214,31 +221,31 @@ same-length-14 c = search needs
 
 same-length-15 : tie.Need-same-length-15
 same-length-15 c =
-    let build′ = c .before .before .before .before .before .before .before .before .before .before .before .before .before .before .before .before .before .before .before .before .before .before .before .build in
-    let measure′ = c .before .before .before .before .before .before .before .before .before .before .before .before .before .before .before .before .before .before .before .before .before .before .before .before .before .before .before .before .before .before .before .before .before .before .before .before .before .before .before .before .measure in
+    let build′ = c .before .before .before .before .before .before .before .before .before .before .before .before .before .before .before .before .before .before .before .before .before .before .before .before .before .before .before .build in
+    let measure′ = c .before .before .before .before .before .before .before .before .before .before .before .before .before .before .before .before .before .before .before .before .before .before .before .before .before .before .before .before .before .before .before .before .before .before .before .before .before .before .before .before .before .before .before .before .measure in
     omega (arith, build′ .kept, measure′ .kept)
 
 same-length-16 : tie.Need-same-length-16
 same-length-16 c =
-    let build′ = c .before .before .before .before .before .before .before .before .before .before .before .before .before .before .before .before .before .before .before .before .before .before .before .build in
-    let measure′ = c .before .before .before .before .before .before .before .before .before .before .before .before .before .before .before .before .before .before .before .before .before .before .before .before .before .before .before .before .before .before .before .before .before .before .before .before .before .before .before .before .measure in
+    let build′ = c .before .before .before .before .before .before .before .before .before .before .before .before .before .before .before .before .before .before .before .before .before .before .before .before .before .before .before .build in
+    let measure′ = c .before .before .before .before .before .before .before .before .before .before .before .before .before .before .before .before .before .before .before .before .before .before .before .before .before .before .before .before .before .before .before .before .before .before .before .before .before .before .before .before .before .before .before .before .measure in
     omega (arith, build′ .kept, measure′ .kept)
 
 same-length-17 : tie.Need-same-length-17
 same-length-17 c =
-    let build′ = c .before .before .before .before .before .before .before .before .before .before .before .before .before .before .before .before .before .before .before .before .before .before .before .build in
-    let measure′ = c .before .before .before .before .before .before .before .before .before .before .before .before .before .before .before .before .before .before .before .before .before .before .before .before .before .before .before .before .before .before .before .before .before .before .before .before .before .before .before .before .measure in
+    let build′ = c .before .before .before .before .before .before .before .before .before .before .before .before .before .before .before .before .before .before .before .before .before .before .before .before .before .before .before .build in
+    let measure′ = c .before .before .before .before .before .before .before .before .before .before .before .before .before .before .before .before .before .before .before .before .before .before .before .before .before .before .before .before .before .before .before .before .before .before .before .before .before .before .before .before .before .before .before .before .measure in
     omega (arith, build′ .kept, measure′ .kept)
 
 same-length-18 : tie.Need-same-length-18
 same-length-18 c =
-    let args′ = c .before .before .before .before .before .before .before .before .before .before .before .before .before .before .before .before .before .before .before .before .before .before .before .before .before .before .before .before .before .before .before .before .before .before .before .before .before .before .before .before .before .before .before .before .before .before .before .before .before .before .before .before .before .before .before .args in
-    let measure′ = c .before .before .before .before .before .before .before .before .before .before .before .before .before .before .before .before .before .before .before .before .before .before .before .before .before .before .before .before .before .before .before .before .before .before .before .before .before .before .before .before .measure in
-    let enum-told′ = c .before .before .before .before .before .before .before .before .before .before .before .before .before .before .before .before .before .before .before .before .before .before .before .before .before .before .before .before .before .before .before .before .enum-told in
-    let enum-told2′ = c .before .before .before .before .before .enum-told2 in
-    let build′ = c .before .before .before .before .before .before .before .before .before .before .before .before .before .before .before .before .before .before .before .before .before .before .before .build in
-    let pre′ = c .before .before .before .before .before .before .before .before .before .before .before .before .before .before .before .before .before .before .before .before .before .before .before .before .before .before .before .before .before .before .before .before .before .before .before .before .before .before .before .before .before .before .before .before .before .before .before .before .before .before .before .before .before .before .before .pre in
-    let copy-part′ = c .before .before .copy-part in
+    let args′ = c .before .before .before .before .before .before .before .before .before .before .before .before .before .before .before .before .before .before .before .before .before .before .before .before .before .before .before .before .before .before .before .before .before .before .before .before .before .before .before .before .before .before .before .before .before .before .before .before .before .before .before .before .before .before .before .before .before .before .before .args in
+    let measure′ = c .before .before .before .before .before .before .before .before .before .before .before .before .before .before .before .before .before .before .before .before .before .before .before .before .before .before .before .before .before .before .before .before .before .before .before .before .before .before .before .before .before .before .before .before .measure in
+    let enum-told′ = c .before .before .before .before .before .before .before .before .before .before .before .before .before .before .before .before .before .before .before .before .before .before .before .before .before .before .before .before .before .before .before .before .before .before .before .before .enum-told in
+    let enum-told2′ = c .before .before .before .before .before .before .before .before .before .enum-told2 in
+    let build′ = c .before .before .before .before .before .before .before .before .before .before .before .before .before .before .before .before .before .before .before .before .before .before .before .before .before .before .before .build in
+    let pre′ = c .before .before .before .before .before .before .before .before .before .before .before .before .before .before .before .before .before .before .before .before .before .before .before .before .before .before .before .before .before .before .before .before .before .before .before .before .before .before .before .before .before .before .before .before .before .before .before .before .before .before .before .before .before .before .before .before .before .before .before .pre in
+    let copy-part′ = c .before .before .before .before .before .before .copy-part in
     let M = matrix (args′ .n) (args′ .input-starts .now) (args′ .input-rows .now) (args′ .input-values .now) in
     let z = measure′ .ensures .go (enum-told′ .given .1) in
     let b = accepted-form (enum-told2′ .given .1) (build′ .ensures) in
@@ -248,18 +255,22 @@ same-length-18 c =
     placed-length (args′ .n) w (build′ .last .1 .1 .1 .1 .1 .1 .1 .1 .1 .1 .1 .0) (omega (arith, long)) (build′ .kept .1 .1 .1 .1 .1 .1 .1 .1 .1 .1 .1 .0) (build′ .result .supernodes) (build′ .last .1 .1 .1 .1 .1 .1 .1 .1 .0) (copy-part′ .last .1 .1 .0) few (omega (arith, few, groups-long M (args′ .cap) (args′ .room) pre′ _ _ _ _ z, (build′ .kept .1 .1 .1 .1 .1 .1 .1 .1 .0), measure′ .kept)) (copy-part′ .ensures) (copy-part′ .kept .1 .1 .0)
 
 same-length-19 : tie.Need-same-length-19
-same-length-19 c = search needs
+same-length-19 c =
+    let clear-behind′ = c .before .before .clear-behind in
+    let build′ = c .before .before .before .before .before .before .before .before .before .before .before .before .before .before .before .before .before .before .before .before .before .before .before .before .before .before .before .build in
+    clear-behind′ .kept .1 .0 ∙ build′ .kept .1 .1 .1 .1 .1 .1 .1 .1 .1 .1 .1 .1 .0
 
 returns-3 : tie.Need-returns-3
 unfolding answered
 returns-3 c =
-    let args′ = c .before .before .before .before .before .before .before .before .before .before .before .before .before .before .before .before .before .before .before .before .before .before .before .before .before .before .before .before .before .before .before .before .before .before .before .before .before .before .before .before .before .before .before .before .before .before .before .before .before .before .before .before .before .before .before .args in
-    let measure′ = c .before .before .before .before .before .before .before .before .before .before .before .before .before .before .before .before .before .before .before .before .before .before .before .before .before .before .before .before .before .before .before .before .before .before .before .before .before .before .before .before .measure in
-    let enum-told′ = c .before .before .before .before .before .before .before .before .before .before .before .before .before .before .before .before .before .before .before .before .before .before .before .before .before .before .before .before .before .before .before .before .enum-told in
-    let enum-told2′ = c .before .before .before .before .before .enum-told2 in
-    let build′ = c .before .before .before .before .before .before .before .before .before .before .before .before .before .before .before .before .before .before .before .before .before .before .before .build in
-    let pre′ = c .before .before .before .before .before .before .before .before .before .before .before .before .before .before .before .before .before .before .before .before .before .before .before .before .before .before .before .before .before .before .before .before .before .before .before .before .before .before .before .before .before .before .before .before .before .before .before .before .before .before .before .before .before .before .before .pre in
-    let copy-part′ = c .before .before .copy-part in
+    let args′ = c .before .before .before .before .before .before .before .before .before .before .before .before .before .before .before .before .before .before .before .before .before .before .before .before .before .before .before .before .before .before .before .before .before .before .before .before .before .before .before .before .before .before .before .before .before .before .before .before .before .before .before .before .before .before .before .before .before .before .before .args in
+    let measure′ = c .before .before .before .before .before .before .before .before .before .before .before .before .before .before .before .before .before .before .before .before .before .before .before .before .before .before .before .before .before .before .before .before .before .before .before .before .before .before .before .before .before .before .before .before .measure in
+    let enum-told′ = c .before .before .before .before .before .before .before .before .before .before .before .before .before .before .before .before .before .before .before .before .before .before .before .before .before .before .before .before .before .before .before .before .before .before .before .before .enum-told in
+    let enum-told2′ = c .before .before .before .before .before .before .before .before .before .enum-told2 in
+    let build′ = c .before .before .before .before .before .before .before .before .before .before .before .before .before .before .before .before .before .before .before .before .before .before .before .before .before .before .before .build in
+    let pre′ = c .before .before .before .before .before .before .before .before .before .before .before .before .before .before .before .before .before .before .before .before .before .before .before .before .before .before .before .before .before .before .before .before .before .before .before .before .before .before .before .before .before .before .before .before .before .before .before .before .before .before .before .before .before .before .before .before .before .before .before .pre in
+    let clear-behind′ = c .before .before .clear-behind in
+    let copy-part′ = c .before .before .before .before .before .before .copy-part in
     let M = matrix (args′ .n) (args′ .input-starts .now) (args′ .input-rows .now) (args′ .input-values .now) in
     let z = measure′ .ensures .go (enum-told′ .given .1) in
     let b = accepted-form (enum-told2′ .given .1) (build′ .ensures) in
@@ -267,7 +278,7 @@ returns-3 c =
     let long = words-long M (args′ .cap) (args′ .room) pre′ _ _ _ _ z in
     let w = args′ .words .now in
     let many : build′ .result .supernodes ≤ length (build′ .last .1 .1 .1 .1 .1 .1 .1 .1 .0) = omega (arith, few, groups-long M (args′ .cap) (args′ .room) pre′ _ _ _ _ z, (build′ .kept .1 .1 .1 .1 .1 .1 .1 .1 .0), measure′ .kept) in
-    record { ans = ap answered (sym (past-later M (args′ .cap) (args′ .room) (z .calm) _ (z .entries) (z .well) (sym (b .answers)))); go = λ q. laid M (args′ .cap) (args′ .room) pre′ _ _ _ _ z (omega (arith, measure′ .kept)) (omega (arith, measure′ .kept)) (omega (arith, measure′ .kept)) _ _ b refl refl refl _ _ (owners-long (args′ .n) w (build′ .last .1 .1 .1 .1 .1 .1 .1 .1 .1 .1 .1 .0) (omega (arith, long)) (build′ .kept .1 .1 .1 .1 .1 .1 .1 .1 .1 .1 .1 .0)) (owners-stay (args′ .n) w (build′ .last .1 .1 .1 .1 .1 .1 .1 .1 .1 .1 .1 .0) (omega (arith, long)) (build′ .kept .1 .1 .1 .1 .1 .1 .1 .1 .1 .1 .1 .0) (build′ .result .supernodes) (build′ .last .1 .1 .1 .1 .1 .1 .1 .1 .0) (copy-part′ .last .1 .1 .0) few many (copy-part′ .ensures)) (places-in (args′ .n) w (build′ .last .1 .1 .1 .1 .1 .1 .1 .1 .1 .1 .1 .0) (omega (arith, long)) (build′ .kept .1 .1 .1 .1 .1 .1 .1 .1 .1 .1 .1 .0) (build′ .result .supernodes) (build′ .last .1 .1 .1 .1 .1 .1 .1 .1 .0) (copy-part′ .last .1 .1 .0) few many (copy-part′ .ensures)) (placed-length (args′ .n) w (build′ .last .1 .1 .1 .1 .1 .1 .1 .1 .1 .1 .1 .0) (omega (arith, long)) (build′ .kept .1 .1 .1 .1 .1 .1 .1 .1 .1 .1 .1 .0) (build′ .result .supernodes) (build′ .last .1 .1 .1 .1 .1 .1 .1 .1 .0) (copy-part′ .last .1 .1 .0) few many (copy-part′ .ensures) (copy-part′ .kept .1 .1 .0)); idle = λ ne. absurd (ne refl) }
+    record { ans = ap answered (sym (past-later M (args′ .cap) (args′ .room) (z .calm) _ (z .entries) (z .well) (sym (b .answers)))); go = λ q. laid M (args′ .cap) (args′ .room) pre′ _ _ _ _ z (omega (arith, measure′ .kept)) (omega (arith, measure′ .kept)) (omega (arith, measure′ .kept)) _ _ (zeros-behind b (build′ .kept .1 .1 .1 .1 .1 .1 .1 .1 .1 .1 .1 .1 .0 ∙ pre′ .nine-long) (clear-behind′ .ensures)) refl refl refl _ _ (owners-long (args′ .n) w (build′ .last .1 .1 .1 .1 .1 .1 .1 .1 .1 .1 .1 .0) (omega (arith, long)) (build′ .kept .1 .1 .1 .1 .1 .1 .1 .1 .1 .1 .1 .0)) (owners-stay (args′ .n) w (build′ .last .1 .1 .1 .1 .1 .1 .1 .1 .1 .1 .1 .0) (omega (arith, long)) (build′ .kept .1 .1 .1 .1 .1 .1 .1 .1 .1 .1 .1 .0) (build′ .result .supernodes) (build′ .last .1 .1 .1 .1 .1 .1 .1 .1 .0) (copy-part′ .last .1 .1 .0) few many (copy-part′ .ensures)) (places-in (args′ .n) w (build′ .last .1 .1 .1 .1 .1 .1 .1 .1 .1 .1 .1 .0) (omega (arith, long)) (build′ .kept .1 .1 .1 .1 .1 .1 .1 .1 .1 .1 .1 .0) (build′ .result .supernodes) (build′ .last .1 .1 .1 .1 .1 .1 .1 .1 .0) (copy-part′ .last .1 .1 .0) few many (copy-part′ .ensures)) (placed-length (args′ .n) w (build′ .last .1 .1 .1 .1 .1 .1 .1 .1 .1 .1 .1 .0) (omega (arith, long)) (build′ .kept .1 .1 .1 .1 .1 .1 .1 .1 .1 .1 .1 .0) (build′ .result .supernodes) (build′ .last .1 .1 .1 .1 .1 .1 .1 .1 .0) (copy-part′ .last .1 .1 .0) few many (copy-part′ .ensures) (copy-part′ .kept .1 .1 .0)); idle = λ ne. absurd (ne refl) }
 
 pub survey-spec : {M : Type 1} → statement M
 survey-spec =
@@ -304,6 +315,7 @@ survey-spec =
     part-copy-part-start
     part-copy-part-end
     copy-part-requires
+    clear-behind-requires
     same-length-12
     same-length-13
     same-length-14
