@@ -1,33 +1,14 @@
 -- Places that rise, the last n - 1 after the first, are a run. Assumes nothing.
 use mathlib.Core.Path.{_≡_, ap, _∙_, subst}
 use mathlib.Core.List.{List}
-use Prim.Native.Nat.{ℕ, zero, suc, _+_, _-_, _≤_, _<_}
+use Prim.Native.Nat.{ℕ, suc, _+_, _-_, _≤_, _<_}
 use native.Mathlib.Omega.{arith}
 use lib.ListN.{length, getD}
 use lib.Ieee.{Float, nan}
 use Rattle.areas.specs.Touch.{Touched}
+use Rattle.areas.proofs.Climb.{reach, run}
 use Rattle.areas.proofs.Touch as touch
 use Rattle.step.specs.Spread.{through, Rising}
-
-module _ (f : ℕ → ℕ) (n : ℕ) (rise : (i k : ℕ) → k < i → i < n → f k < f i) where
-  climb : (i d : ℕ) → i + d < n → f i + d ≤ f (i + d)
-  climb i zero h = omega (arith, ap f (same i))
-    where
-      same : (i : ℕ) → i + 0 ≡ i
-      same i = omega arith
-  climb i (suc d) h = omega (arith, climb i d (omega arith), rise (i + suc d) (i + d) (omega arith) h)
-
-  reach : (i : ℕ) → i < n → f 0 + i ≤ f i
-  reach i h = omega (arith, climb 0 i (omega arith), ap f same)
-    where
-      same : 0 + i ≡ i
-      same = omega arith
-
-  pub run : f (n - 1) - f 0 ≡ n - 1 → (i : ℕ) → i < n → f i ≡ f 0 + i
-  run e i h = omega (arith, reach i h, climb i (n - 1 - i) (omega arith), ap f last)
-    where
-      last : i + (n - 1 - i) ≡ n - 1
-      last = omega arith
 
 module _ (place rows : List ℕ) (base at n L : ℕ) (t : Rising place rows base at n L) where
   abbrev P : ℕ → ℕ
@@ -35,6 +16,9 @@ module _ (place rows : List ℕ) (base at n L : ℕ) (t : Rising place rows base
 
   abbrev first : ℕ
   first = getD place (getD rows at 0) 0
+
+  next : (i : ℕ) → suc i < n → P i < P (suc i)
+  next i h = t .rise (suc i) i (omega arith) h
 
   same : at + 0 ≡ at
   same = omega arith
@@ -49,7 +33,7 @@ module _ (place rows : List ℕ) (base at n L : ℕ) (t : Rising place rows base
   known-last = t .spread .known (n - 1) (omega (arith, t .some))
 
   pub in-order : first ≤ P (n - 1)
-  in-order = omega (arith, first-is, reach P n (t .rise) (n - 1) (omega (arith, t .some)))
+  in-order = omega (arith, first-is, reach P n next (n - 1) (omega (arith, t .some)))
 
   -- the part of a longer list from a on
   pub shifted : (a L′ : ℕ) → a + L ≤ L′ → Rising place rows (a + base) at n L′
@@ -68,7 +52,7 @@ module _ (place rows : List ℕ) (base at n L : ℕ) (t : Rising place rows base
 
   module _ (e : P (n - 1) - first ≡ n - 1) where
     there : (i : ℕ) → i < n → base + first + i ≡ through place rows base at i
-    there i h = omega (arith, first-is, run P n (t .rise) (ap (λ x. P (n - 1) - x) first-is ∙ e) i h)
+    there i h = omega (arith, first-is, run P n next (ap (λ x. P (n - 1) - x) first-is ∙ e) i h)
 
     pub room : base + first + n ≤ L
     room = omega (arith, there (n - 1) (omega (arith, t .some)), t .spread .within (n - 1) (omega (arith, t .some)), t .some)
