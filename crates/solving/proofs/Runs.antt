@@ -50,11 +50,11 @@ module _ (rows : List ℕ) (q : ℕ) where
     pub run-at : (i : ℕ) → i < length rows → getD rows i 0 ≡ q + i
     run-at i l = eqb→eq (getD rows i 0) (q + i) (every-at (λ i. eqb (getD rows i 0) (q + i)) (length rows) (true-T h) i l)
 
-    -- the rows below the first
-    below-run : (m : ℕ) → m ≡ length rows - 1 → rising (q + 1) m ≡ drop 1 rows
-    below-run m e =
-        sym (ext-getD 0 (drop 1 rows) (rising (q + 1) m) (length-drop 1 rows ∙ sym (length-rising (q + 1) m ∙ e))
-        (λ i l. getD-drop 1 rows i 0 ∙ (let z : getD rows (1 + i) 0 ≡ q + 1 + i = omega (arith, run-at (1 + i) (omega (arith, length-drop 1 rows))) in z) ∙ sym (rising-at (q + 1) m i (omega (arith, length-drop 1 rows)))))
+    -- the rows from place k on
+    pub run-from : (k m : ℕ) → m ≡ length rows - k → rising (q + k) m ≡ drop k rows
+    run-from k m e =
+        sym (ext-getD 0 (drop k rows) (rising (q + k) m) (length-drop k rows ∙ sym (length-rising (q + k) m ∙ e))
+        (λ i l. getD-drop k rows i 0 ∙ (let z : getD rows (k + i) 0 ≡ q + k + i = omega (arith, run-at (k + i) (omega (arith, length-drop k rows))) in z) ∙ sym (rising-at (q + k) m i (omega (arith, length-drop k rows)))))
 
 -- column q's rows and values below the first, as they are lent, by rows and as a run; g is a rule
 module _ {X : Type 0} {rows : List ℕ} {values : List Float} {q n : ℕ} (k : Column rows values q n) (g : List ℕ → List Float → X) where
@@ -65,7 +65,7 @@ module _ {X : Type 0} {rows : List ℕ} {values : List Float} {q n : ℕ} (k : C
   by-rows e = e ∙ ap₂ g (tail-lent 1 rows) (tail-lent 1 values)
 
   pub as-run : {z : X} → isRun rows q ≡ true → z ≡ g (rising (q + 1) (length lent)) lent → z ≡ g (drop 1 rows) (drop 1 values)
-  as-run h e = e ∙ ap₂ g (below-run rows q h (length lent) (omega (arith, rest-long 1 values, k .long))) (tail-lent 1 values)
+  as-run h e = e ∙ ap₂ g (run-from rows q h 1 (length lent) (omega (arith, rest-long 1 values, k .long))) (tail-lent 1 values)
 
 -- they are as many, and stay below n
 module _ {rows : List ℕ} {values : List Float} {q n : ℕ} (k : Column rows values q n) where

@@ -30,6 +30,7 @@ pub record Column (rows : List ℕ) (values : List Float) (q n : ℕ) : Type 0 w
 
 -- w of n columns from f, with these rows, and their values
 pub record Block (rows : List ℕ) (values : List Float) (f w n : ℕ) : Type 0 where
+  pub some : 0 < w
   pub wide : w ≤ length rows
   pub few : length rows ≤ 32768
   pub room : trapezoid (length rows) w ≤ length values

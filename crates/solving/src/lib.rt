@@ -11,6 +11,7 @@ ghost use Rattle.statement.specs.Shape.{Shape, offset};
 ghost use Rattle.statement.specs.Solve.{shapeIn, permutes, solvable, rowsIn, valuesIn, lessBelow, lessAbove, forwardAt, forward, backwardAt, backward, solution};
 ghost use Rattle.laws.specs.Lent.{lent, laid};
 ghost use Rattle.solving.specs.Walk.{Rising, isRun, Column, Block, Walked, Supernode, Solving};
+use forward_four::forward4;
 use panel::column_start;
 use panel::panel_column;
 use statement::Record;
@@ -117,13 +118,38 @@ fn backward_column(rows: &[usize], values: &[f64], q: usize, x: &mut [f64])
     x[q] = z / d;
 }
 
+// A supernode's first columns from f, by fours, where all its rows follow each other. How many they are.
+fn forward_fours(rows: &[usize], values: &[f64], f: usize, w: usize, x: &mut [f64]) -> usize
+    requires { ⌜ Block (now rows) (now values) f w (length (now x)) ⌝ }
+    ensures { λ r. ⌜ r ≤ w ⌝ }
+    ensures { λ r. ⌜ ((S : Shape) (K : ℕ) (v x₀ : List Float) → Supernode S K v (now (rows .entry)) (now (values .entry)) f w → now (x .entry) ≡ forward S v x₀ f → now (x .exit) ≡ forward S v x₀ (f + r)) ⌝ }
+{
+    if !is_run(rows, f) {
+        return 0;
+    }
+    let m = rows.len();
+    let mut c: usize = 0;
+    while c + 4 <= w {
+        forward4(
+            panel_column(values, m, c),
+            panel_column(values, m, c + 1),
+            panel_column(values, m, c + 2),
+            panel_column(values, m, c + 3),
+            f + c,
+            x,
+        );
+        c += 4;
+    }
+    c
+}
+
 // A supernode's w columns from f, rising: each is a column of the panel of its rows.
 fn forward_columns(rows: &[usize], values: &[f64], f: usize, w: usize, x: &mut [f64])
     requires { ⌜ Block (now rows) (now values) f w (length (now x)) ⌝ }
     ensures { λ _. ⌜ ((S : Shape) (K : ℕ) (v x₀ : List Float) → Supernode S K v (now (rows .entry)) (now (values .entry)) f w → now (x .entry) ≡ forward S v x₀ f → now (x .exit) ≡ forward S v x₀ (f + w)) ⌝ }
 {
     let m = rows.len();
-    let mut c: usize = 0;
+    let mut c = forward_fours(rows, values, f, w, x);
     while c < w {
         forward_column(&rows[c..], panel_column(values, m, c), f + c, x);
         c += 1;

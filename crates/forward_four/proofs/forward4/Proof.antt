@@ -1,4 +1,4 @@
-use Rattle.forward_four.proofs.Columns.{stored-size, four-is}
+use Rattle.forward_four.proofs.Columns.{four-is}
 use lib.ListN.{length-set}
 -- `forward_four::forward4` meets its contract: the quotients, then the rest. Assumes nothing.
 use native.Mathlib.Omega.{arith}
