@@ -45,13 +45,13 @@ less-run [] x y at h = record { size = refl; inside = λ p k e l. absurd (omega 
 less-run (a ∷ l) x y at h = less-more x _ l y a at (omega arith) (less-run l (set x at (sub binary64 (getD x at +0) (mul binary64 a y))) y (suc at) (omega (arith, length-set x at (sub binary64 (getD x at +0) (mul binary64 a y)))))
 
 -- z is x with column q done: y is its quotient
-pub record Done (x z : List Float) (q : ℕ) (l : List Float) (y : Float) : Type 0 where
+record Done (x z : List Float) (q : ℕ) (l : List Float) (y : Float) : Type 0 where
   pub size : length z ≡ length x
   pub top : getD z q nan ≡ y
   pub below : (p k : ℕ) → p ≡ q + k → 0 < k → k < length l → getD z p nan ≡ less l y k (getD x p nan)
   pub outside : (p : ℕ) → (p < q) ⊎ (q + length l ≤ p) → getD z p nan ≡ getD x p nan
 
-pub column-done : (x : List Float) (q : ℕ) (l : List Float) (y : Float) → 0 < length l → q + length l ≤ length x → y ≡ div binary64 (getD x q nan) (getD l 0 nan) → Done x (column x q l) q l y
+column-done : (x : List Float) (q : ℕ) (l : List Float) (y : Float) → 0 < length l → q + length l ≤ length x → y ≡ div binary64 (getD x q nan) (getD l 0 nan) → Done x (column x q l) q l y
 column-done x q l y h r e = record {
   size = ap length is ∙ t .size ∙ length-set x q y;
   top = at-z q ∙ t .outside q (inl (omega arith)) ∙ getD-set-same x q y nan (omega arith);
@@ -65,9 +65,6 @@ column-done x q l y h r e = record {
       getD-set-other x q p y nan (⊎-elim (λ u i. omega arith) (λ u i. omega arith) o);
 }
   where
-    run : List Float
-    run = lessBelow (set x q y) y (rising (q + 1) (length (drop 1 l))) (drop 1 l)
-
     is : column x q l ≡ lessBelow (set x q y) y (rising (q + 1) (length (drop 1 l))) (drop 1 l)
     is = unfold column in rw (getD-any x q +0 nan (let z : q < length x = omega arith in z), getD-any l 0 +0 nan h, ← e, length-drop 1 l)
 
@@ -79,16 +76,16 @@ column-done x q l y h r e = record {
 
 module _ (x l₀ l₁ l₂ l₃ : List Float) (q : ℕ) (h : Four l₀ l₁ l₂ l₃ q (length x)) where
   -- the four quotients
-  abbrev pub y₀ : Float
+  abbrev y₀ : Float
   y₀ = div binary64 (getD x q nan) (getD l₀ 0 nan)
 
-  abbrev pub y₁ : Float
+  abbrev y₁ : Float
   y₁ = div binary64 (less l₀ y₀ 1 (getD x (q + 1) nan)) (getD l₁ 0 nan)
 
-  abbrev pub y₂ : Float
+  abbrev y₂ : Float
   y₂ = div binary64 (less l₁ y₁ 1 (less l₀ y₀ 2 (getD x (q + 2) nan))) (getD l₂ 0 nan)
 
-  abbrev pub y₃ : Float
+  abbrev y₃ : Float
   y₃ = div binary64 (less l₂ y₂ 1 (less l₁ y₁ 2 (less l₀ y₀ 3 (getD x (q + 3) nan)))) (getD l₃ 0 nan)
 
   -- x after one, two, three and four columns
@@ -141,10 +138,10 @@ module _ (x l₀ l₁ l₂ l₃ : List Float) (q : ℕ) (h : Four l₀ l₁ l₂
       d₀ .outside p o
 
   -- the quotients stored, and nothing else
-  abbrev pub stored : List Float
+  abbrev stored : List Float
   stored = set (set (set (set x q y₀) (q + 1) y₁) (q + 2) y₂) (q + 3) y₃
 
-  pub stored-size : length stored ≡ length x
+  stored-size : length stored ≡ length x
   stored-size = simp length-set refl
 
   stored-far : (p : ℕ) → (p < q) ⊎ (q + 4 ≤ p) → getD stored p nan ≡ getD x p nan

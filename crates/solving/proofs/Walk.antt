@@ -1,29 +1,25 @@
 -- The columns of a supernode, and the supernodes, one more at a time. Assumes nothing.
 use mathlib.Core.Path.{_≡_, refl, sym, ap, ap₂, _∙_}
-use mathlib.Core.Bool.{true}
 use mathlib.Core.List.{List}
 use Prim.Native.Nat.{ℕ, suc, _+_, _-_, _<_, _≤_}
 use native.Mathlib.Omega.{arith}
 use native.Mathlib.Numerals.{add-one}
 use lib.Dec.{T, eqb, leb, ltb, eqb→eq, ltb→lt}
-use lib.ListN.{length, getD, set, take, drop, length-drop}
+use lib.ListN.{length, getD, take, drop, length-drop}
 use lib.Seq.{getD-drop, drop-drop}
-use lib.Ieee.{Float, binary64, div}
-use Rattle.statement.specs.Input.{+0}
-use Rattle.statement.specs.Lists.{every, rising}
+use lib.Ieee.{Float}
+use Rattle.statement.specs.Lists.{every}
 use Rattle.statement.specs.Shape.{Shape, supernodes, first, width, rowsOf, trapezoid, offset}
-use Rattle.statement.specs.Solve.{goodSupernode, rowsIn, startIn, valuesIn, lessBelow, forwardAt, forward, backwardAt, backward}
+use Rattle.statement.specs.Solve.{goodSupernode, rowsIn, startIn, valuesIn, forwardAt, forward, backwardAt, backward}
 use Rattle.laws.proofs.Bools.{and-both}
 use Rattle.laws.proofs.Every.{every-at}
 use Rattle.laws.proofs.Columns.{rows-in, start-in}
 use Rattle.laws.proofs.Walked.{Whole, whole}
 use Rattle.areas.proofs.Tail.{tail-lent}
-use Rattle.forward_four.specs.Four.{column, Four}
 use Rattle.panel.specs.View.{columnOf, Within}
 use Rattle.panel.proofs.Cells.{within, column-length}
-use Rattle.solving.specs.Walk.{Rising, isRun, Column, Block, Walked, Supernode}
+use Rattle.solving.specs.Walk.{Column, Block, Walked, Supernode}
 use Rattle.solving.proofs.Rules.{rest-long}
-use Rattle.solving.proofs.Runs.{run-at, run-from}
 
 -- ---- columns
 
@@ -32,9 +28,6 @@ module _ {rows : List ℕ} {values : List Float} {f w n : ℕ} (b : Block rows v
   pub column-within : Within (length rows) values c
   column-within = within (length rows) values c w h (b .wide) (b .few) (b .room)
 
-  column-long : length (columnOf (length rows) values c) ≡ length rows - c
-  column-long = column-length column-within
-
   up : (c i : ℕ) → c + suc i ≡ suc (c + i)
   up c i = omega arith
 
@@ -42,6 +35,9 @@ module _ {rows : List ℕ} {values : List Float} {f w n : ℕ} (b : Block rows v
   own-long = length-drop c rows
 
   module _ (u : List Float) (e : u ≡ columnOf (length rows) values c) where
+    pub column-long : length u ≡ length rows - c
+    column-long = ap length e ∙ column-length column-within
+
     pub one-column : Column (take (length rows - c) (drop c rows)) u (f + c) n
     one-column =
         rw (tail-lent c rows) (record {
@@ -51,7 +47,7 @@ module _ {rows : List ℕ} {values : List Float} {f w n : ℕ} (b : Block rows v
                 from = getD-drop c rows 0 0 ∙ ap (λ i. getD rows i 0) (let z : c + 0 ≡ c = omega arith in z) ∙ b .own c h;
                 rise = λ i l. rw (getD-drop c rows i 0, getD-drop c rows (suc i) 0) (omega (arith, b .rise (c + i) (omega (arith, own-long)), ap (λ z. getD rows z 0) (up c i)));
               };
-          long = own-long ∙ sym column-long ∙ ap length (sym e);
+          long = own-long ∙ sym column-long;
           inside = omega (arith, b .cols);
           low = λ i l. rw (getD-drop c rows i 0) (b .low (c + i) (omega (arith, own-long)));
         })
@@ -82,61 +78,6 @@ module _ (S : Shape) (v : List Float) (f : ℕ) where
   pub backward-less : (x y : List Float) (c d : ℕ) → c ≡ d + 1 → y ≡ backwardAt S v x (f + d) → backward S v x (f + c) ≡ backward S v y (f + d)
   unfolding backward
   backward-less x y c d k h = let e : f + c ≡ suc (f + d) = omega arith in rw e (ap (λ t. backward S v t (f + d)) (sym h))
-
--- where all rows follow each other
-module _ {rows : List ℕ} {values : List Float} {f w n : ℕ} (b : Block rows values f w n) where
-  pub block-rising : Rising rows f
-  block-rising =
-      record {
-        some = omega (arith, b .some, b .wide);
-        from = b .own 0 (b .some) ∙ (let z : f + 0 ≡ f = omega arith in z);
-        rise = b .rise;
-      }
-
-  module _ (r : isRun rows f ≡ true) where
-    -- four columns from c, as they are lent
-    module _ (c : ℕ) (h : c + 4 ≤ w) (u₀ u₁ u₂ u₃ : List Float)
-        (e₀ : u₀ ≡ columnOf (length rows) values c) (e₁ : u₁ ≡ columnOf (length rows) values (c + 1))
-        (e₂ : u₂ ≡ columnOf (length rows) values (c + 2)) (e₃ : u₃ ≡ columnOf (length rows) values (c + 3)) where
-      long : (k : ℕ) (u : List Float) → k < w → u ≡ columnOf (length rows) values k → length u ≡ length rows - k
-      long k u l e = ap length e ∙ column-length (column-within b k l)
-
-      pub four-columns : Four u₀ u₁ u₂ u₃ (f + c) n
-      four-columns =
-          let a = long c u₀ (omega arith) e₀ in
-          let d = long (c + 3) u₃ (omega arith) e₃ in
-          record {
-            some = omega (arith, d, b .wide);
-            third = omega (arith, d, long (c + 2) u₂ (omega arith) e₂, b .wide);
-            second = omega (arith, d, long (c + 1) u₁ (omega arith) e₁, b .wide);
-            first = omega (arith, d, a, b .wide);
-            room = omega (arith, a, b .wide, b .some, run-at rows f r (length rows - 1) (omega (arith, b .some, b .wide)), b .low (length rows - 1) (omega (arith, b .some, b .wide)));
-          }
-
-      module _ (S : Shape) (K : ℕ) (v : List Float) (s : Supernode S K v rows values f w) where
-        -- one of them, by the rule of columns
-        one-run : (x : List Float) (k : ℕ) (u : List Float) → k < w → u ≡ columnOf (length rows) values k → column x (f + k) u ≡ forwardAt S v x (f + k)
-        unfolding column forwardAt
-        one-run x k u l e =
-            let y : Float = div binary64 (getD x (f + k) +0) (getD u 0 +0) in
-            let s₁ : f + k + 1 ≡ f + (k + 1) = omega arith in
-            let s₂ : length u - 1 ≡ length rows - (k + 1) = omega (arith, long k u l e) in
-            rw (← column-values b k l u e S K v s, ← column-rows b k l u e S K v s)
-            (ap (λ z. lessBelow (set x (f + k) y) y z (drop 1 u))
-            (ap (λ a. rising a (length u - 1)) s₁ ∙ run-from rows f r (k + 1) (length u - 1) s₂ ∙ sym (drop-drop 1 k rows) ∙ ap (drop 1) (sym (tail-lent k rows))))
-
-        next : (z x : List Float) (k j a : ℕ) (u : List Float) → k < w → u ≡ columnOf (length rows) values k → j ≡ k + 1 → a ≡ f + k → x ≡ forward S v z (f + k) → column x a u ≡ forward S v z (f + j)
-        next z x k j a u l e d p g = forward-more S v f z x (column x a u) k g (ap (λ i. column x i u) p ∙ one-run x k u l e) ∙ ap (λ i. forward S v z (f + i)) (sym d)
-
-        pub four-more : (z x y : List Float) → x ≡ forward S v z (f + c) → y ≡ column (column (column (column x (f + c) u₀) (f + c + 1) u₁) (f + c + 2) u₂) (f + c + 3) u₃ → y ≡ forward S v z (f + (c + 4))
-        four-more z x y g t =
-            let x₁ = column x (f + c) u₀ in
-            let x₂ = column x₁ (f + c + 1) u₁ in
-            let x₃ = column x₂ (f + c + 2) u₂ in
-            let g₁ = next z x c (c + 1) (f + c) u₀ (omega arith) e₀ refl refl g in
-            let g₂ = next z x₁ (c + 1) (c + 2) (f + c + 1) u₁ (omega arith) e₁ (omega arith) (omega arith) g₁ in
-            let g₃ = next z x₂ (c + 2) (c + 3) (f + c + 2) u₂ (omega arith) e₂ (omega arith) (omega arith) g₂ in
-            t ∙ next z x₃ (c + 3) (c + 4) (f + c + 3) u₃ (omega arith) e₃ (omega arith) (omega arith) g₃
 
 -- ---- supernodes
 

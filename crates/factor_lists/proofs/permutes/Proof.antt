@@ -1,7 +1,6 @@
 -- `factor_lists::permutes` meets its contract: counted slowly, or in the words. Assumes nothing.
 use mathlib.Core.Path.{sym, _∙_}
 use native.Mathlib.Omega.{arith}
-use lib.ListN.{length}
 use lib.Seq.{length-take-le}
 use borrow.Author.Needs.{needs}
 use Rattle.factor_lists.proofs.Parts.{names-past, counted, zeros-first, low-of}

@@ -1,7 +1,7 @@
-use Rattle.forward_four.proofs.Columns.{four-is}
-use lib.ListN.{length-set}
 -- `forward_four::forward4` meets its contract: the quotients, then the rest. Assumes nothing.
 use native.Mathlib.Omega.{arith}
+use lib.ListN.{length-set}
+use Rattle.forward_four.proofs.Columns.{four-is}
 use Rattle.forward_four.proofs.forward4.Statement.{statement}
 use Rattle.forward_four.proofs.forward4.Tie as tie
 

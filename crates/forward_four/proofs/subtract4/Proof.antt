@@ -1,12 +1,12 @@
-use Rattle.forward_four.specs.Four.{less}
-use Rattle.areas.specs.Touch.{Touched}
-use Rattle.areas.proofs.Touch as touch
-use lib.ListN.{getD}
-use lib.Ieee.{nan}
+-- `forward_four::subtract4` meets its contract. The loop subtracts four products at each place: Touched up to i. Assumes nothing.
 use mathlib.Core.Path.{refl, ap}
 use Prim.Native.Nat.{_+_, _-_, _≤_}
--- `forward_four::subtract4` meets its contract. The loop subtracts four products at each place: Touched up to i. Assumes nothing.
 use native.Mathlib.Omega.{arith}
+use lib.ListN.{getD}
+use lib.Ieee.{nan}
+use Rattle.areas.specs.Touch.{Touched}
+use Rattle.areas.proofs.Touch as touch
+use Rattle.forward_four.specs.Four.{less}
 use Rattle.forward_four.proofs.subtract4.Statement.{statement}
 use Rattle.forward_four.proofs.subtract4.Tie as tie
 

@@ -1,12 +1,11 @@
+-- `solving::forward_column` meets its contract: one column's rule, over its rows or over a run. Assumes nothing.
+use mathlib.Core.Path.{sym, _∙_}
+use native.Mathlib.Omega.{arith}
+use lib.ListN.{getD, set, length-set}
+use lib.Ieee.{nan, binary64, div}
+use Rattle.statement.specs.Solve.{lessBelow}
 use Rattle.solving.proofs.Runs.{by-rows, as-run, as-many, below-low, run-in}
 use Rattle.solving.proofs.Rules.{forward-is}
-use Rattle.statement.specs.Solve.{lessBelow}
-use lib.ListN.{getD, set}
-use lib.Ieee.{nan, binary64, div}
-use lib.ListN.{length-set}
-use mathlib.Core.Path.{sym, _∙_}
--- `solving::forward_column` meets its contract: one column's rule, over its rows or over a run. Assumes nothing.
-use native.Mathlib.Omega.{arith}
 use Rattle.solving.proofs.forward_column.Statement.{statement}
 use Rattle.solving.proofs.forward_column.Tie as tie
 

@@ -1,15 +1,16 @@
-use Rattle.solving.proofs.Walk.{column-within, block-rising, four-columns, four-more}
-use Rattle.solving.specs.Walk.{Supernode}
-use Rattle.laws.proofs.Taken.{yes}
-use Rattle.statement.specs.Shape.{Shape}
-use Rattle.statement.specs.Solve.{forward}
-use lib.ListN.{length}
-use lib.Ieee.{Float}
-use Prim.Native.Nat.{ℕ, _+_, _-_, _≤_}
+-- `solving::forward_fours` meets its contract: the columns before c are done, four at a time. Assumes nothing.
 use mathlib.Core.Path.{_≡_, refl, ap, _∙_}
 use mathlib.Core.List.{List}
--- `solving::forward_fours` meets its contract: the columns before c are done, four at a time. Assumes nothing.
+use Prim.Native.Nat.{ℕ, _+_, _-_, _≤_}
 use native.Mathlib.Omega.{arith}
+use lib.ListN.{length}
+use lib.Ieee.{Float}
+use Rattle.statement.specs.Shape.{Shape}
+use Rattle.statement.specs.Solve.{forward}
+use Rattle.laws.proofs.Taken.{yes}
+use Rattle.solving.proofs.Walk.{column-within}
+use Rattle.solving.proofs.Fours.{block-rising, four-columns, four-more}
+use Rattle.solving.specs.Walk.{Supernode}
 use Rattle.solving.proofs.forward_fours.Statement.{statement}
 use Rattle.solving.proofs.forward_fours.Tie as tie
 

@@ -1,8 +1,8 @@
-use Rattle.solving.proofs.Runs.{by-rows, as-run, as-many, below-low, run-in}
-use Rattle.statement.specs.Solve.{lessAbove}
-use mathlib.Core.Path.{sym, _∙_}
 -- `solving::reduce_column` meets its contract: over the rows, or over a run. Assumes nothing.
+use mathlib.Core.Path.{sym, _∙_}
 use native.Mathlib.Omega.{arith}
+use Rattle.statement.specs.Solve.{lessAbove}
+use Rattle.solving.proofs.Runs.{by-rows, as-run, as-many, below-low, run-in}
 use Rattle.solving.proofs.reduce_column.Statement.{statement}
 use Rattle.solving.proofs.reduce_column.Tie as tie
 

@@ -45,7 +45,6 @@ loop-again : tie.Need-loop-again Inv-loop μ-loop
 loop-again c =
     let loop′ = c .before .before .before .loop in
     let args′ = c .before .before .before .before .args in
-    let pre′ = c .before .before .before .before .pre in
     (omega arith, loop′ .inv .1 ∙ run-above-more (args′ .at) (args′ .values .now) (loop′ .i) (omega arith) (args′ .x .now) (loop′ .t) (omega arith))
 
 returns : tie.Need-returns Inv-loop μ-loop

@@ -54,7 +54,6 @@ loop-again : tie.Need-loop-again Inv-loop μ-loop
 loop-again c =
     let loop′ = c .before .before .before .loop in
     let args′ = c .before .before .before .before .args in
-    let pre′ = c .before .before .before .before .pre in
     (omega arith, simp length-set (loop′ .inv .1), loop′ .inv .2 ∙ run-below-more (args′ .at) (args′ .values .now) (loop′ .i) (omega arith) (loop′ .x) _ (omega arith))
 
 same-length : tie.Need-same-length Inv-loop μ-loop
