@@ -1,9 +1,9 @@
 -- A part of a slice from a to e, lent and put back. Assumes nothing.
 use mathlib.Core.Path.{_≡_, sym, ap, _∙_}
 use mathlib.Core.List.{List, _++_}
-use Prim.Native.Nat.{ℕ, _+_, _-_, _≤_}
+use Prim.Native.Nat.{ℕ, _+_, _-_, _≤_, _<_}
 use native.Mathlib.Omega.{arith}
-use lib.ListN.{length, take, drop, length-append, length-drop}
+use lib.ListN.{length, getD, take, drop, length-append, length-drop, List·getD-append}
 use lib.Seq.{length-take-le, take-at, drop-at, drop-drop}
 
 module _ {X : Type 0} (v : List X) (a e : ℕ) (h : a ≤ e) (k : e ≤ length v) where
