@@ -6,7 +6,7 @@ use native.Mathlib.Omega.{arith}
 use native.Mathlib.Decide.{ℕ-discrete}
 use native.Mathlib.Numerals.{add-one}
 use lib.Dec.{eqb, eqb→eq, not-T}
-use lib.ListN.{length, getD, set, replicate, getD-replicate}
+use lib.ListN.{length, getD, set}
 use lib.Seq.{getD-set-same, getD-set-other}
 use Rattle.statement.specs.Lists.{tally}
 use Rattle.laws.proofs.Bools.{eqb-of}
@@ -19,9 +19,9 @@ module _ (p : List ℕ) (v k : ℕ) where
   pub named-miss : (getD p k 0 ≡ v → ⊥) → tally (λ a. eqb (getD p a 0) v) (k + 1) ≡ tally (λ a. eqb (getD p a 0) v) k
   named-miss e = rw add-one (tally-no (λ a. eqb (getD p a 0) v) k (not-T (eqb (getD p k 0) v) (λ t. e (eqb→eq (getD p k 0) v t))))
 
-pub none-named : (p l : List ℕ) (n : ℕ) → n ≤ length l → l ≡ replicate (length l) 0 → (v : ℕ) → v < n → getD l v 0 ≡ tally (λ a. eqb (getD p a 0) v) 0
+pub none-named : (p l : List ℕ) (n : ℕ) → ((v : ℕ) → v < n → getD l v 0 ≡ 0) → (v : ℕ) → v < n → getD l v 0 ≡ tally (λ a. eqb (getD p a 0) v) 0
 unfolding tally
-none-named p l n h e v q = ap (λ (t : List ℕ). getD t v 0) e ∙ getD-replicate (length l) v 0 0 (omega arith)
+none-named p l n e = e
 
 pub one-named : (p l : List ℕ) (n k : ℕ) → n ≤ length l → getD p k 0 < n → ((v : ℕ) → v < n → getD l v 0 ≡ tally (λ a. eqb (getD p a 0) v) k)
     → (v : ℕ) → v < n → getD (set l (getD p k 0) (getD l (getD p k 0) 0 + 1)) v 0 ≡ tally (λ a. eqb (getD p a 0) v) (k + 1)

@@ -1,17 +1,18 @@
 -- The tests of single lists, as the code takes them. Assumes nothing.
-use mathlib.Core.Path.{_≡_, sym, ap, _∙_}
-use mathlib.Core.Bool.{true, false, _&&_}
-use mathlib.Core.List.{List}
+use mathlib.Core.Path.{_≡_, ap, _∙_}
+use mathlib.Core.Bool.{Bool, true, false, _&&_}
+use mathlib.Core.List.{List, _++_}
 use Prim.Native.Nat.{ℕ, suc, _+_, _-_, _≤_, _<_}
 use native.Mathlib.Omega.{arith}
-use lib.Dec.{eqb, leb, ltb, ltb→lt, not-T}
-use lib.ListN.{length, getD, take, replicate, length-replicate}
+use native.Mathlib.Nat.{le-refl}
+use lib.Dec.{T, eqb, leb, ltb, ltb→lt, not-T}
+use lib.ListN.{length, getD, take, replicate, length-replicate, getD-replicate, List·getD-append}
 use lib.Seq.{length-take-le, getD-take}
 use borrow.Author.Tests.{lt-ltb}
 use Rattle.statement.specs.Lists.{every, tally}
 use Rattle.statement.specs.Shape.{Shape, first, width, rowsOf}
 use Rattle.statement.specs.Solve.{permutes, goodSupernode}
-use Rattle.laws.proofs.Bools.{T-false}
+use Rattle.laws.proofs.Bools.{T-false, same, rises}
 use Rattle.laws.proofs.Every.{every-ext, every-all, every-at}
 use Rattle.laws.proofs.Order.{never}
 use Rattle.laws.proofs.Taken.{true-T}
@@ -35,8 +36,27 @@ pub good-is : {rows : List ℕ} {f w n : ℕ} (S : Shape) (K : ℕ) → rows ≡
 unfolding goodSupernode
 good-is S K e p q r = rw (e, p, q, r)
 
-pub zeros-again : {w : List ℕ} (m : ℕ) → w ≡ replicate m 0 → w ≡ replicate (length w) 0
-zeros-again m e = e ∙ ap (λ (n : ℕ). replicate n 0) (sym (ap length e ∙ length-replicate m 0))
+-- the words that were filled first
+pub zeros-first : (n : ℕ) (d w : List ℕ) → w ≡ replicate n 0 ++ d → (v : ℕ) → v < n → getD w v 0 ≡ 0
+zeros-first n d w e v h = ap (λ (l : List ℕ). getD l v 0) e ∙ List·getD-append (replicate n 0) d 0 v (omega (arith, length-replicate {A = ℕ} n 0)) ∙ getD-replicate n v 0 0 h
+
+-- numbers that rise are all below n if the last is, and not all if it is not
+module _ (l : List ℕ) (n : ℕ) where
+  abbrev below : ℕ → Bool
+  below x = ltb (getD l x 0) n
+
+  pub none-past : length l ≡ 0 → true ≡ every below (length l)
+  unfolding every
+  none-past e = rw e
+
+  pub last-below : every (λ x. ltb (getD l x 0) (getD l (suc x) 0)) (length l - 1) ≡ true → 0 < length l → ltb (getD l (length l - 1) 0) n ≡ every below (length l)
+  last-below h k = same (below (length l - 1)) (every below (length l)) all (λ t. every-at below (length l) t (length l - 1) (omega arith))
+    where
+      up : (i : ℕ) → i < length l → getD l i 0 ≤ getD l (length l - 1) 0
+      up i q = rises (λ x. getD l x 0) (length l - 1) (λ x z. omega (arith, ltb→lt (getD l x 0) (getD l (suc x) 0) (every-at (λ x. ltb (getD l x 0) (getD l (suc x) 0)) (length l - 1) (true-T h) x z))) i (length l - 1) (omega arith) (le-refl _)
+
+      all : T (below (length l - 1)) → T (every below (length l))
+      all t = true-T (every-all below (length l) (λ i q. lt-ltb (getD l i 0) n (omega (arith, up i q, ltb→lt (getD l (length l - 1) 0) n t))))
 
 pub low-of : (n : ℕ) (q : List ℕ) → n ≤ length q → every (λ x. ltb (getD (take n q) x 0) n) (length (take n q)) ≡ true → (i : ℕ) → i < n → getD q i 0 < n
 low-of n q h e i l =

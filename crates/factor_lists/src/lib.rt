@@ -1,16 +1,17 @@
 // The lists of a factor, each by itself, for any contents: what number 11 asks of the record and the lengths (a), of the permutation (b), of
 // the first columns (c) and of one supernode's rows (d).
 ghost use mathlib.Core.Path.{_≡_};
+ghost use mathlib.Core.Bool.{true};
 ghost use mathlib.Core.List.{[]};
 ghost use Prim.Native.Nat.{ℕ, suc, _+_, _-_, _^_, _≤_, _<_};
-ghost use lib.ListN.{length, getD, replicate};
+ghost use lib.ListN.{length, getD};
 ghost use lib.Dec.{eqb, ltb};
 ghost use Rattle.statement.specs.Lists.{every, tally};
 ghost use Rattle.statement.specs.Shape.{Shape, first, width, rowsOf};
 ghost use Rattle.statement.specs.Solve.{fullRecord, permutes, risingColumns, goodSupernode};
 ghost use Rattle.laws.specs.Lent.{lent, laid};
 use answers::is_full;
-use areas::clear_words;
+use areas::fill_part;
 use statement::Record;
 
 // The numbers of l stay below n.
@@ -39,6 +40,18 @@ fn all_rising(l: &[usize]) -> bool
         i += 1;
     }
     true
+}
+
+// Numbers of l that rise strictly stay below n if the last of them does.
+fn rising_below(l: &[usize], n: usize) -> bool
+    requires { ⌜ every (λ x. ltb (getD (now l) x 0) (getD (now l) (suc x) 0)) (length (now l) - 1) ≡ true ⌝ }
+    ensures { λ r. ⌜ r ≡ every (λ x. ltb (getD (now (l .entry)) x 0) n) (length (now (l .entry))) ⌝ }
+{
+    if l.len() == 0 {
+        return true;
+    }
+    let last = l.len() - 1;
+    l[last] < n
 }
 
 // The first w numbers of l count up from f.
@@ -88,10 +101,10 @@ fn permutes_slowly(n: usize, p: &[usize]) -> bool
     true
 }
 
-// How often each number below n is named, into words that are zero.
+// How often each number below n is named, into words of which the first n are zero.
 fn count_all(n: usize, p: &[usize], words: &mut [usize])
     requires { ⌜ (n ≤ length (now p)) × (n ≤ length (now words)) ⌝ }
-    requires { ⌜ now words ≡ replicate (length (now words)) 0 ⌝ }
+    requires { ⌜ ((v : ℕ) → v < n → getD (now words) v 0 ≡ 0) ⌝ }
     requires { ⌜ ((i : ℕ) → i < n → getD (now p) i 0 < n) ⌝ }
     ensures { λ _. ⌜ ((v : ℕ) → v < n → getD (now (words .exit)) v 0 ≡ tally (λ a. eqb (getD (now (p .entry)) a 0) v) n) ⌝ }
 {
@@ -129,7 +142,7 @@ pub fn permutes(n: usize, p: &[usize], words: &mut [usize]) -> bool
     if !all_below(&p[..n], n) {
         return false;
     }
-    clear_words(words);
+    fill_part(n, 0, words);
     count_all(n, p, words);
     all_one(n, &words[..])
 }
@@ -163,7 +176,7 @@ pub fn good_supernode(rows: &[usize], f: usize, w: usize, n: usize) -> bool
     if !counts_up(rows, f, w) {
         return false;
     }
-    all_below(rows, n)
+    rising_below(rows, n)
 }
 
 // (a): the record is full, n is at most 32,768 and areas 1, 2, 3, 9 and 11 meet the needs by its counts.

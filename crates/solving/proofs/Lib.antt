@@ -1,3 +1,5 @@
 pub mod Rules
+pub mod Runs
 pub mod Walk
+pub mod Fours
 pub mod Order

@@ -41,12 +41,12 @@ module _ (rows : List ℕ) (values : List Float) (i : ℕ) (h : i ≡ length row
 
 module _ (rows : List ℕ) (values : List Float) (q : ℕ) (x z : List Float) (some : 0 < length values) (inside : q < length x)
     (S : Shape) (v : List Float) (e : rows ≡ rowsIn S q) (p : values ≡ valuesIn S v q) where
-  pub forward-is : z ≡ lessBelow (set x q (div binary64 (getD x q nan) (getD values 0 nan))) (div binary64 (getD x q nan) (getD values 0 nan)) (take (length rows - 1) (drop 1 rows)) (take (length values - 1) (drop 1 values))
+  pub forward-is : z ≡ lessBelow (set x q (div binary64 (getD x q nan) (getD values 0 nan))) (div binary64 (getD x q nan) (getD values 0 nan)) (drop 1 rows) (drop 1 values)
       → z ≡ forwardAt S v x q
   unfolding forwardAt
-  forward-is h = rw (← e, ← p, getD-any x q +0 nan inside, getD-any values 0 +0 nan some) (h ∙ ap (λ l. lessBelow (set x q (div binary64 (getD x q nan) (getD values 0 nan))) (div binary64 (getD x q nan) (getD values 0 nan)) l (take (length values - 1) (drop 1 values))) (tail-lent 1 rows) ∙ ap (lessBelow (set x q (div binary64 (getD x q nan) (getD values 0 nan))) (div binary64 (getD x q nan) (getD values 0 nan)) (drop 1 rows)) (tail-lent 1 values))
+  forward-is h = rw (← e, ← p, getD-any x q +0 nan inside, getD-any values 0 +0 nan some) h
 
-  pub backward-is : (t : Float) → t ≡ lessAbove (getD x q nan) x (take (length rows - 1) (drop 1 rows)) (take (length values - 1) (drop 1 values))
+  pub backward-is : (t : Float) → t ≡ lessAbove (getD x q nan) x (drop 1 rows) (drop 1 values)
       → set x q (div binary64 t (getD values 0 nan)) ≡ backwardAt S v x q
   unfolding backwardAt
-  backward-is t h = rw (← e, ← p, getD-any x q +0 nan inside, getD-any values 0 +0 nan some) (ap (λ u. set x q (div binary64 u (getD values 0 nan))) (h ∙ ap (λ l. lessAbove (getD x q nan) x l (take (length values - 1) (drop 1 values))) (tail-lent 1 rows) ∙ ap (lessAbove (getD x q nan) x (drop 1 rows)) (tail-lent 1 values)))
+  backward-is t h = rw (← e, ← p, getD-any x q +0 nan inside, getD-any values 0 +0 nan some) (ap (λ u. set x q (div binary64 u (getD values 0 nan))) h)

@@ -4,18 +4,21 @@ use mathlib.Core.List.{List}
 use Prim.Native.Nat.{ℕ, suc, _+_, _-_, _<_, _≤_}
 use native.Mathlib.Omega.{arith}
 use native.Mathlib.Numerals.{add-one}
+use lib.Dec.{T, eqb, leb, ltb, eqb→eq, ltb→lt}
 use lib.ListN.{length, getD, take, drop, length-drop}
 use lib.Seq.{getD-drop, drop-drop}
 use lib.Ieee.{Float}
-use Rattle.statement.specs.Shape.{Shape, supernodes, first, trapezoid, offset}
-use Rattle.statement.specs.Solve.{rowsIn, startIn, valuesIn, forwardAt, forward, backwardAt, backward}
-use Rattle.laws.specs.Lent.{Walkable}
+use Rattle.statement.specs.Lists.{every}
+use Rattle.statement.specs.Shape.{Shape, supernodes, first, width, rowsOf, trapezoid, offset}
+use Rattle.statement.specs.Solve.{goodSupernode, rowsIn, startIn, valuesIn, forwardAt, forward, backwardAt, backward}
+use Rattle.laws.proofs.Bools.{and-both}
+use Rattle.laws.proofs.Every.{every-at}
 use Rattle.laws.proofs.Columns.{rows-in, start-in}
 use Rattle.laws.proofs.Walked.{Whole, whole}
 use Rattle.areas.proofs.Tail.{tail-lent}
 use Rattle.panel.specs.View.{columnOf, Within}
 use Rattle.panel.proofs.Cells.{within, column-length}
-use Rattle.solving.specs.Walk.{Column, Block, Supernode}
+use Rattle.solving.specs.Walk.{Column, Block, Walked, Supernode}
 use Rattle.solving.proofs.Rules.{rest-long}
 
 -- ---- columns
@@ -25,15 +28,26 @@ module _ {rows : List ℕ} {values : List Float} {f w n : ℕ} (b : Block rows v
   pub column-within : Within (length rows) values c
   column-within = within (length rows) values c w h (b .wide) (b .few) (b .room)
 
+  up : (c i : ℕ) → c + suc i ≡ suc (c + i)
+  up c i = omega arith
+
   own-long : length (drop c rows) ≡ length rows - c
   own-long = length-drop c rows
 
   module _ (u : List Float) (e : u ≡ columnOf (length rows) values c) where
+    pub column-long : length u ≡ length rows - c
+    column-long = ap length e ∙ column-length column-within
+
     pub one-column : Column (take (length rows - c) (drop c rows)) u (f + c) n
     one-column =
         rw (tail-lent c rows) (record {
-          some = omega (arith, own-long, b .wide);
-          long = own-long ∙ sym (column-length column-within) ∙ ap length (sym e);
+          rising =
+              record {
+                some = omega (arith, own-long, b .wide);
+                from = getD-drop c rows 0 0 ∙ ap (λ i. getD rows i 0) (let z : c + 0 ≡ c = omega arith in z) ∙ b .own c h;
+                rise = λ i l. rw (getD-drop c rows i 0, getD-drop c rows (suc i) 0) (omega (arith, b .rise (c + i) (omega (arith, own-long)), ap (λ z. getD rows z 0) (up c i)));
+              };
+          long = own-long ∙ sym column-long;
           inside = omega (arith, b .cols);
           low = λ i l. rw (getD-drop c rows i 0) (b .low (c + i) (omega (arith, own-long)));
         })
@@ -67,7 +81,25 @@ module _ (S : Shape) (v : List Float) (f : ℕ) where
 
 -- ---- supernodes
 
-module _ (S : Shape) (walk : Walkable S) (k : ℕ) (h : k < supernodes S) where
+-- what number 11's test tells of the rows
+module _ (S : Shape) (K : ℕ) (h : T (goodSupernode S K)) where
+  abbrev l : List ℕ
+  l = rowsOf S K
+
+  tests : T (every (λ x. ltb (getD l x 0) (getD l (suc x) 0)) (length l - 1)) × T (every (λ c. eqb (getD l c 0) (first S K + c)) (width S K))
+  unfolding goodSupernode
+  tests =
+      let a = and-both (every (λ x. ltb (getD l x 0) (getD l (suc x) 0)) (length l - 1)) _ h in
+      let b = and-both (leb (width S K) (length l)) _ (a .1) in
+      (a .0, and-both (every (λ c. eqb (getD l c 0) (first S K + c)) (width S K)) _ (b .1) .0)
+
+  rows-rise : (x : ℕ) → suc x < length l → getD l x 0 < getD l (suc x) 0
+  rows-rise x k = ltb→lt (getD l x 0) (getD l (suc x) 0) (every-at (λ x. ltb (getD l x 0) (getD l (suc x) 0)) (length l - 1) (tests .0) x (omega arith))
+
+  rows-own : (c : ℕ) → c < width S K → getD l c 0 ≡ first S K + c
+  rows-own c k = eqb→eq (getD l c 0) (first S K + c) (every-at (λ c. eqb (getD l c 0) (first S K + c)) (width S K) (tests .1) c k)
+
+module _ (S : Shape) (walked : Walked S) (k : ℕ) (h : k < supernodes S) where
   abbrev own : List ℕ
   own = take (getD (S .starts) (k + 1) 0 - getD (S .starts) k 0) (drop (getD (S .starts) k 0) (S .rows))
 
@@ -75,7 +107,10 @@ module _ (S : Shape) (walk : Walkable S) (k : ℕ) (h : k < supernodes S) where
   wide = first S (k + 1) - first S k
 
   u : Whole S k
-  u = whole S walk k h
+  u = whole S (walked .walk) k h
+
+  same-wide : wide ≡ width S k
+  same-wide = ap (λ z. first S z - first S k) (add-one k)
 
   tall : length own ≡ getD (S .starts) (k + 1) 0 - getD (S .starts) k 0
   tall = ap length (u .node .part) ∙ u .node .tall
@@ -90,21 +125,24 @@ module _ (S : Shape) (walk : Walkable S) (k : ℕ) (h : k < supernodes S) where
 
     pub block-of : offset S (suc k) ≤ length values → S .n ≤ 32768 → Block own lent (first S k) wide (S .n)
     block-of room few = record {
+      some = omega (arith, u .node .right);
       wide = omega (arith, tall, u .wide);
       few = omega (arith, tall, u .few);
       room = omega (arith, ap (λ m. trapezoid m wide) tall, next-at, rest-long off values);
       cols = omega (arith, u .node .cols, u .node .right);
+      own = λ c l. rw (u .node .part) (rows-own S k (walked .good k h) c (omega (arith, same-wide)));
+      rise = λ i l. rw (u .node .part) (rows-rise S k (walked .good k h) i (omega (arith, ap length (u .node .part))));
       low = λ i l. rw (u .node .part) (u .low i (omega (arith, ap length (u .node .part))));
     }
 
     supernode-of : Supernode S k values own lent (first S k) wide
     supernode-of = record {
-      rise = walk .framed .rise;
+      rise = walked .walk .framed .rise;
       one = h;
       own = u .node .part;
       at = tail-lent off values ∙ ap (λ o. drop o values) e;
       from = refl;
-      wide = ap (λ z. first S z - first S k) (add-one k);
+      wide = same-wide;
     }
 
     columns-past : first S k + wide ≡ first S (suc k)

@@ -3,14 +3,15 @@ ghost use mathlib.Core.Path.{_≡_};
 ghost use mathlib.Core.Bool.{true};
 ghost use mathlib.Core.List.{List};
 ghost use Prim.Native.Nat.{ℕ, suc, _+_, _-_, _≤_, _<_};
-ghost use lib.ListN.{length, getD};
+ghost use lib.ListN.{length, getD, drop};
 ghost use lib.Ieee.{Float};
-ghost use Rattle.statement.specs.Lists.{place, list};
+ghost use Rattle.statement.specs.Lists.{place, list, rising};
 ghost use Rattle.statement.specs.Input.{+0};
 ghost use Rattle.statement.specs.Shape.{Shape, offset};
 ghost use Rattle.statement.specs.Solve.{shapeIn, permutes, solvable, rowsIn, valuesIn, lessBelow, lessAbove, forwardAt, forward, backwardAt, backward, solution};
-ghost use Rattle.laws.specs.Lent.{lent, laid, Walkable};
-ghost use Rattle.solving.specs.Walk.{Column, Block, Supernode, Solving};
+ghost use Rattle.laws.specs.Lent.{lent, laid};
+ghost use Rattle.solving.specs.Walk.{Rising, isRun, Column, Block, Walked, Supernode, Solving};
+use forward_four::forward4;
 use panel::column_start;
 use panel::panel_column;
 use statement::Record;
@@ -45,6 +46,41 @@ fn reduce(rows: &[usize], values: &[f64], z: f64, x: &[f64]) -> f64
     t
 }
 
+// x, less the value times y at each of the places from `at`.
+fn subtract_run(at: usize, values: &[f64], y: f64, x: &mut [f64])
+    requires { ⌜ at + length (now values) ≤ length (now x) ⌝ }
+    ensures { λ _. ⌜ now (x .exit) ≡ lessBelow (now (x .entry)) y (rising at (length (now (values .entry)))) (now (values .entry)) ⌝ }
+{
+    let mut i: usize = 0;
+    while i < values.len() {
+        x[at + i] = x[at + i] - values[i] * y;
+        i += 1;
+    }
+}
+
+// z, less the value times x at each of the places from `at`.
+fn reduce_run(at: usize, values: &[f64], z: f64, x: &[f64]) -> f64
+    requires { ⌜ at + length (now values) ≤ length (now x) ⌝ }
+    ensures { λ r. ⌜ r ≡ lessAbove z (now (x .entry)) (rising at (length (now (values .entry)))) (now (values .entry)) ⌝ }
+{
+    let mut t = z;
+    let mut i: usize = 0;
+    while i < values.len() {
+        t = t - values[i] * x[at + i];
+        i += 1;
+    }
+    t
+}
+
+// Whether the rows follow each other from q: since they rise, the last of them tells.
+fn is_run(rows: &[usize], q: usize) -> bool
+    requires { ⌜ Rising (now rows) q ⌝ }
+    ensures { λ r. ⌜ r ≡ isRun (now (rows .entry)) q ⌝ }
+{
+    let last = rows.len() - 1;
+    rows[last] - q == last
+}
+
 // Column q, rising: divide, then subtract from each row below.
 fn forward_column(rows: &[usize], values: &[f64], q: usize, x: &mut [f64])
     requires { ⌜ Column (now rows) (now values) q (length (now x)) ⌝ }
@@ -52,7 +88,23 @@ fn forward_column(rows: &[usize], values: &[f64], q: usize, x: &mut [f64])
 {
     let y = x[q] / values[0];
     x[q] = y;
-    subtract(&rows[1..], &values[1..], y, x);
+    if is_run(rows, q) {
+        subtract_run(q + 1, &values[1..], y, x);
+    } else {
+        subtract(&rows[1..], &values[1..], y, x);
+    }
+}
+
+// t, less the value times x at each row of column q below the first.
+fn reduce_column(rows: &[usize], values: &[f64], q: usize, t: f64, x: &[f64]) -> f64
+    requires { ⌜ Column (now rows) (now values) q (length (now x)) ⌝ }
+    ensures { λ r. ⌜ r ≡ lessAbove t (now (x .entry)) (drop 1 (now (rows .entry))) (drop 1 (now (values .entry))) ⌝ }
+{
+    if is_run(rows, q) {
+        reduce_run(q + 1, &values[1..], t, x)
+    } else {
+        reduce(&rows[1..], &values[1..], t, x)
+    }
 }
 
 // Column q, falling: subtract for each row below, then divide.
@@ -62,8 +114,33 @@ fn backward_column(rows: &[usize], values: &[f64], q: usize, x: &mut [f64])
 {
     let d = values[0];
     let t = x[q];
-    let z = reduce(&rows[1..], &values[1..], t, &x[..]);
+    let z = reduce_column(rows, values, q, t, &x[..]);
     x[q] = z / d;
+}
+
+// A supernode's first columns from f, by fours, where all its rows follow each other. How many they are.
+fn forward_fours(rows: &[usize], values: &[f64], f: usize, w: usize, x: &mut [f64]) -> usize
+    requires { ⌜ Block (now rows) (now values) f w (length (now x)) ⌝ }
+    ensures { λ r. ⌜ r ≤ w ⌝ }
+    ensures { λ r. ⌜ ((S : Shape) (K : ℕ) (v x₀ : List Float) → Supernode S K v (now (rows .entry)) (now (values .entry)) f w → now (x .entry) ≡ forward S v x₀ f → now (x .exit) ≡ forward S v x₀ (f + r)) ⌝ }
+{
+    if !is_run(rows, f) {
+        return 0;
+    }
+    let m = rows.len();
+    let mut c: usize = 0;
+    while c + 4 <= w {
+        forward4(
+            panel_column(values, m, c),
+            panel_column(values, m, c + 1),
+            panel_column(values, m, c + 2),
+            panel_column(values, m, c + 3),
+            f + c,
+            x,
+        );
+        c += 4;
+    }
+    c
 }
 
 // A supernode's w columns from f, rising: each is a column of the panel of its rows.
@@ -72,7 +149,7 @@ fn forward_columns(rows: &[usize], values: &[f64], f: usize, w: usize, x: &mut [
     ensures { λ _. ⌜ ((S : Shape) (K : ℕ) (v x₀ : List Float) → Supernode S K v (now (rows .entry)) (now (values .entry)) f w → now (x .entry) ≡ forward S v x₀ f → now (x .exit) ≡ forward S v x₀ (f + w)) ⌝ }
 {
     let m = rows.len();
-    let mut c: usize = 0;
+    let mut c = forward_fours(rows, values, f, w, x);
     while c < w {
         forward_column(&rows[c..], panel_column(values, m, c), f + c, x);
         c += 1;
@@ -102,7 +179,7 @@ fn forward_supernode(
     off: usize,
     x: &mut [f64],
 ) -> usize
-    requires { ⌜ Walkable (laid (length (now x)) (now firsts) (now starts) (now rows)) ⌝ }
+    requires { ⌜ Walked (laid (length (now x)) (now firsts) (now starts) (now rows)) ⌝ }
     requires { ⌜ k < length (now firsts) - 1 ⌝ }
     requires { ⌜ off ≡ offset (laid (length (now x)) (now firsts) (now starts) (now rows)) k ⌝ }
     requires { ⌜ (offset (laid (length (now x)) (now firsts) (now starts) (now rows)) (suc k) ≤ length (now values)) × (length (now x) ≤ 32768) ⌝ }
@@ -127,7 +204,7 @@ fn backward_supernode(
     end: usize,
     x: &mut [f64],
 ) -> usize
-    requires { ⌜ Walkable (laid (length (now x)) (now firsts) (now starts) (now rows)) ⌝ }
+    requires { ⌜ Walked (laid (length (now x)) (now firsts) (now starts) (now rows)) ⌝ }
     requires { ⌜ k < length (now firsts) - 1 ⌝ }
     requires { ⌜ end ≡ offset (laid (length (now x)) (now firsts) (now starts) (now rows)) (suc k) ⌝ }
     requires { ⌜ (end ≤ length (now values)) × (length (now x) ≤ 32768) ⌝ }
@@ -145,7 +222,7 @@ fn backward_supernode(
 
 // All columns, rising.
 fn forward(firsts: &[usize], starts: &[usize], rows: &[usize], values: &[f64], x: &mut [f64])
-    requires { ⌜ Walkable (laid (length (now x)) (now firsts) (now starts) (now rows)) ⌝ }
+    requires { ⌜ Walked (laid (length (now x)) (now firsts) (now starts) (now rows)) ⌝ }
     requires { ⌜ (offset (laid (length (now x)) (now firsts) (now starts) (now rows)) (length (now firsts) - 1) ≤ length (now values)) × (length (now x) ≤ 32768) ⌝ }
     ensures { λ _. ⌜ now (x .exit) ≡ forward (laid (length (now (x .entry))) (now (firsts .entry)) (now (starts .entry)) (now (rows .entry))) (now (values .entry)) (now (x .entry)) (length (now (x .entry))) ⌝ }
 {
@@ -166,7 +243,7 @@ fn backward(
     entries: usize,
     x: &mut [f64],
 )
-    requires { ⌜ Walkable (laid (length (now x)) (now firsts) (now starts) (now rows)) ⌝ }
+    requires { ⌜ Walked (laid (length (now x)) (now firsts) (now starts) (now rows)) ⌝ }
     requires { ⌜ entries ≡ offset (laid (length (now x)) (now firsts) (now starts) (now rows)) (length (now firsts) - 1) ⌝ }
     requires { ⌜ (entries ≤ length (now values)) × (length (now x) ≤ 32768) ⌝ }
     ensures { λ _. ⌜ now (x .exit) ≡ backward (laid (length (now (x .entry))) (now (firsts .entry)) (now (starts .entry)) (now (rows .entry))) (now (values .entry)) (now (x .entry)) (length (now (x .entry))) ⌝ }

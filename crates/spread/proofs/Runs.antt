@@ -2,36 +2,16 @@
 use mathlib.Core.Path.{_≡_, ap}
 use mathlib.Core.Bool.{true}
 use mathlib.Core.List.{List}
-use Prim.Native.Nat.{ℕ, zero, suc, _+_, _-_, _≤_, _<_}
+use Prim.Native.Nat.{ℕ, suc, _+_, _-_, _≤_, _<_}
 use borrow.Author.Tests.{eqb-true}
 use native.Mathlib.Omega.{arith}
 use lib.ListN.{length, getD}
 use lib.Dec.{eqb}
 use lib.Ieee.{Float, nan}
 use Rattle.areas.specs.Touch.{Touched}
+use Rattle.areas.proofs.Climb.{reach, run}
 use Rattle.areas.proofs.Touch as touch
 use Rattle.spread.specs.Spread.{posOf, through, Spread, Rises, Rising, Run}
-
-module _ (f : ℕ → ℕ) (n : ℕ) (rise : (i k : ℕ) → k < i → i < n → f k < f i) where
-  -- they rise by at least one each time
-  climb : (i d : ℕ) → i + d < n → f i + d ≤ f (i + d)
-  climb i zero h = omega (arith, ap f same)
-    where
-      same : i + 0 ≡ i
-      same = omega arith
-  climb i (suc d) h = omega (arith, climb i d (omega arith), rise (i + suc d) (i + d) (omega arith) h)
-
-  reach : (i : ℕ) → i < n → f 0 + i ≤ f i
-  reach i h = omega (arith, climb 0 i (omega arith), ap f same)
-    where
-      same : 0 + i ≡ i
-      same = omega arith
-
-  run : f (n - 1) - f 0 ≡ n - 1 → (i : ℕ) → i < n → f i ≡ f 0 + i
-  run e i h = omega (arith, reach i h, climb i (n - 1 - i) (omega arith), ap f last)
-    where
-      last : i + (n - 1 - i) ≡ n - 1
-      last = omega arith
 
 -- the position of the first, as the code reads it
 abbrev first : List ℕ → List ℕ → ℕ → ℕ
@@ -40,6 +20,9 @@ first place rows at = getD place (getD rows at 0) 0
 module _ (place rows : List ℕ) (at n : ℕ) (t : Rises place rows at n) where
   abbrev P : ℕ → ℕ
   P i = posOf place rows at i
+
+  next : (i : ℕ) → suc i < n → P i < P (suc i)
+  next i h = t .rise (suc i) i (omega arith) h
 
   same : at + 0 ≡ at
   same = omega arith
@@ -57,11 +40,11 @@ module _ (place rows : List ℕ) (at n : ℕ) (t : Rises place rows at n) where
   known-last = t .known (n - 1) (omega (arith, t .some))
 
   pub in-order : first place rows at ≤ P (n - 1)
-  in-order = omega (arith, first-is, reach P n (t .rise) (n - 1) (omega (arith, t .some)))
+  in-order = omega (arith, first-is, reach P n next (n - 1) (omega (arith, t .some)))
 
   -- the test, which compares with x
   pub run-of : (x : ℕ) → eqb (P (n - 1) - first place rows at) x ≡ true → x ≡ n - 1 → Run place rows at n
-  run-of x e h = run P n (t .rise) (omega (arith, first-is, eqb-true (P (n - 1) - first place rows at) x e))
+  run-of x e h = run P n next (omega (arith, first-is, eqb-true (P (n - 1) - first place rows at) x e))
 
   pub of-run : Run place rows at n → P (n - 1) - first place rows at ≡ n - 1
   of-run r = omega (arith, first-is, r (n - 1) (omega (arith, t .some)))

@@ -19,7 +19,7 @@ abbrev μ-loop : tie.MeasureT-loop
 loop-holds : tie.Need-loop-holds Inv-loop μ-loop
 loop-holds c =
     let args′ = c .args in
-    (omega arith, refl, none-named (args′ .p .now) _ _ (c .pre .0 .1) (c .pre .1 .0))
+    (omega arith, refl, none-named (args′ .p .now) (args′ .words .now) (args′ .n) (c .pre .1 .0))
 
 mul-v : tie.Need-mul-v Inv-loop μ-loop
 mul-v c = omega arith

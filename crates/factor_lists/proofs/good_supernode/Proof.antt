@@ -34,18 +34,21 @@ returns-3 c =
     let if3′ = c .if3 in
     λ S K e p q r. sym (good-is S K e p q r ∙ rw (sym (all-rising′ .ensures) ∙ not-false _ (if1′ .left), le-leb _ _ (if2′ .left), sym (counts-up′ .ensures) ∙ not-true _ (if3′ .taken)))
 
-all-below-requires : tie.Need-all-below-requires
-all-below-requires c κs = omega arith
+rising-below-requires : tie.Need-rising-below-requires
+rising-below-requires c κs =
+    let all-rising′ = c .before .before .before .before .all-rising in
+    let if1′ = c .before .before .before .if1 in
+    sym (all-rising′ .ensures) ∙ not-false _ (if1′ .left)
 
 returns-4 : tie.Need-returns-4
 returns-4 c =
-    let all-below′ = c .all-below in
+    let rising-below′ = c .rising-below in
     let all-rising′ = c .before .before .before .before .before .all-rising in
     let if1′ = c .before .before .before .before .if1 in
     let if2′ = c .before .before .before .if2 in
     let counts-up′ = c .before .before .counts-up in
     let if3′ = c .before .if3 in
-    λ S K e p q r. all-below′ .ensures ∙ sym (good-is S K e p q r ∙ rw (sym (all-rising′ .ensures) ∙ not-false _ (if1′ .left), le-leb _ _ (if2′ .left), sym (counts-up′ .ensures) ∙ not-false _ (if3′ .left)))
+    λ S K e p q r. rising-below′ .ensures ∙ sym (good-is S K e p q r ∙ rw (sym (all-rising′ .ensures) ∙ not-false _ (if1′ .left), le-leb _ _ (if2′ .left), sym (counts-up′ .ensures) ∙ not-false _ (if3′ .left)))
 
 pub good-supernode-spec : {M : Type 1} → statement M
-good-supernode-spec = tie.close (tie.spec all-rising-requires returns returns-2 counts-up-requires returns-3 all-below-requires returns-4)
+good-supernode-spec = tie.close (tie.spec all-rising-requires returns returns-2 counts-up-requires returns-3 rising-below-requires returns-4)

@@ -1,10 +1,9 @@
 -- `factor_lists::permutes` meets its contract: counted slowly, or in the words. Assumes nothing.
 use mathlib.Core.Path.{sym, _∙_}
 use native.Mathlib.Omega.{arith}
-use lib.ListN.{length}
 use lib.Seq.{length-take-le}
 use borrow.Author.Needs.{needs}
-use Rattle.factor_lists.proofs.Parts.{names-past, counted, zeros-again, low-of}
+use Rattle.factor_lists.proofs.Parts.{names-past, counted, zeros-first, low-of}
 use Rattle.laws.proofs.Taken.{no, yes}
 use Rattle.factor_lists.proofs.permutes.Statement.{statement}
 use Rattle.factor_lists.proofs.permutes.Tie as tie
@@ -33,17 +32,17 @@ returns-2 c =
     let if2′ = c .if2 in
     sym (names-past (args′ .n) (args′ .p .now) (pre′) (no (all-below′ .ensures) (if2′ .taken)))
 
-clear-words-requires : tie.Need-clear-words-requires
-clear-words-requires c κs = omega arith
+fill-part-requires : tie.Need-fill-part-requires
+fill-part-requires c κs = omega arith
 
 count-all-requires : tie.Need-count-all-requires
 count-all-requires c κs =
     let pre′ = c .before .before .before .before .before .before .before .before .before .before .before .pre in
-    let clear-words′ = c .before .before .before .clear-words in
+    let fill-part′ = c .before .before .before .fill-part in
     let args′ = c .before .before .before .before .before .before .before .before .before .before .before .args in
     let all-below′ = c .before .before .before .before .before .before .all-below in
     let if2′ = c .before .before .before .before .before .if2 in
-    ((pre′, omega (arith, clear-words′ .kept .0)), (zeros-again (length (args′ .words .now)) (clear-words′ .ensures), low-of _ _ (pre′) (yes (all-below′ .ensures) (if2′ .left))))
+    ((pre′, omega (arith, fill-part′ .kept .1 .1 .0)), (zeros-first _ _ _ (fill-part′ .ensures), low-of _ _ (pre′) (yes (all-below′ .ensures) (if2′ .left))))
 
 all-one-requires : tie.Need-all-one-requires
 all-one-requires c κs = search needs
@@ -59,4 +58,4 @@ returns-3 c =
     all-one′ .ensures ∙ counted (args′ .n) (args′ .p .now) (count-all′ .last .1 .1 .0) (count-all′ .ensures)
 
 pub permutes-spec : {M : Type 1} → statement M
-permutes-spec = tie.close (tie.spec permutes-slowly-requires returns slice-aggregate-all-below all-below-requires returns-2 clear-words-requires count-all-requires all-one-requires same-length returns-3)
+permutes-spec = tie.close (tie.spec permutes-slowly-requires returns slice-aggregate-all-below all-below-requires returns-2 fill-part-requires count-all-requires all-one-requires same-length returns-3)

@@ -20,13 +20,13 @@ abbrev μ-loop : tie.MeasureT-loop
 sub-k : tie.Need-sub-k Inv-loop μ-loop
 sub-k c =
     let pre′ = c .before .before .before .before .before .pre in
-    omega (arith, pre′ .0 .framed .some)
+    omega (arith, pre′ .0 .walk .framed .some)
 
 loop-holds : tie.Need-loop-holds Inv-loop μ-loop
 loop-holds c =
     let pre′ = c .before .before .before .before .before .pre in
     let args′ = c .before .before .before .before .before .args in
-    (omega arith, pre′ .1 .0, refl, ap (backward (laid (length (args′ .x .now)) (args′ .firsts .now) (args′ .starts .now) (args′ .rows .now)) (args′ .values .now) (args′ .x .now)) (sym (pre′ .0 .framed .ends)))
+    (omega arith, pre′ .1 .0, refl, ap (backward (laid (length (args′ .x .now)) (args′ .firsts .now) (args′ .starts .now) (args′ .rows .now)) (args′ .values .now) (args′ .x .now)) (sym (pre′ .0 .walk .framed .ends)))
 
 sub-k-2 : tie.Need-sub-k-2 Inv-loop μ-loop
 sub-k-2 c = omega arith
@@ -63,7 +63,7 @@ returns c =
     let args′ = c .before .before .before .before .before .before .before .args in
     let pre′ = c .before .before .before .before .before .before .before .pre in
     let e : loop′ .k ≡ 0 = omega arith in
-    sym (loop′ .inv .3 ∙ ap (backward (laid (length (args′ .x .now)) (args′ .firsts .now) (args′ .starts .now) (args′ .rows .now)) (args′ .values .now) (loop′ .x)) (ap (λ i. getD (args′ .firsts .now) i 0) e ∙ pre′ .0 .framed .from))
+    sym (loop′ .inv .3 ∙ ap (backward (laid (length (args′ .x .now)) (args′ .firsts .now) (args′ .starts .now) (args′ .rows .now)) (args′ .values .now) (loop′ .x)) (ap (λ i. getD (args′ .firsts .now) i 0) e ∙ pre′ .0 .walk .framed .from))
 
 pub backward-spec : {M : Type 1} → statement M
 backward-spec = tie.close (tie.spec Inv-loop μ-loop sub-k loop-holds sub-k-2 backward-supernode-requires loop-less loop-again same-length returns)

@@ -29,17 +29,17 @@ sub-w : tie.Need-sub-w
 sub-w c =
     let pre′ = c .before .before .before .before .before .before .before .pre in
     let args′ = c .before .before .before .before .before .before .before .args in
-    omega (arith, whole _ (pre′ .0) (args′ .k) (pre′ .1 .0) .node .right)
+    omega (arith, whole _ (pre′ .0 .walk) (args′ .k) (pre′ .1 .0) .node .right)
 
 mul-s : tie.Need-mul-s
 mul-s c =
     let pre′ = c .before .before .before .before .before .before .before .pre in
-    omega (arith, pre′ .0 .framed .long)
+    omega (arith, pre′ .0 .walk .framed .long)
 
 shared-slice-read-s : tie.Need-shared-slice-read-s
 shared-slice-read-s c =
     let pre′ = c .before .before .before .before .before .before .before .before .pre in
-    omega (arith, pre′ .0 .framed .long)
+    omega (arith, pre′ .0 .walk .framed .long)
 
 add-e : tie.Need-add-e
 add-e c = omega arith
@@ -47,24 +47,24 @@ add-e c = omega arith
 mul-e : tie.Need-mul-e
 mul-e c =
     let pre′ = c .before .before .before .before .before .before .before .before .pre in
-    omega (arith, pre′ .0 .framed .long)
+    omega (arith, pre′ .0 .walk .framed .long)
 
 shared-slice-read-e : tie.Need-shared-slice-read-e
 shared-slice-read-e c =
     let pre′ = c .before .before .before .before .before .before .before .before .before .pre in
-    omega (arith, pre′ .0 .framed .long)
+    omega (arith, pre′ .0 .walk .framed .long)
 
 sub-column-start : tie.Need-sub-column-start
 sub-column-start c =
     let pre′ = c .before .before .before .before .before .before .before .before .before .pre in
     let args′ = c .before .before .before .before .before .before .before .before .before .args in
-    omega (arith, whole _ (pre′ .0) (args′ .k) (pre′ .1 .0) .node .down)
+    omega (arith, whole _ (pre′ .0 .walk) (args′ .k) (pre′ .1 .0) .node .down)
 
 column-start-requires : tie.Need-column-start-requires
 column-start-requires c κs =
     let pre′ = c .before .before .before .before .before .before .before .before .before .pre in
     let args′ = c .before .before .before .before .before .before .before .before .before .args in
-    (whole _ (pre′ .0) (args′ .k) (pre′ .1 .0) .wide, omega (arith, whole _ (pre′ .0) (args′ .k) (pre′ .1 .0) .few, pre′ .1 .1 .1 .1))
+    (whole _ (pre′ .0 .walk) (args′ .k) (pre′ .1 .0) .wide, omega (arith, whole _ (pre′ .0 .walk) (args′ .k) (pre′ .1 .0) .few, pre′ .1 .1 .1 .1))
 
 sub-off : tie.Need-sub-off
 sub-off c =
@@ -77,25 +77,25 @@ mul-backward-columns : tie.Need-mul-backward-columns
 mul-backward-columns c =
     let pre′ = c .before .before .before .before .before .before .before .before .before .before .pre in
     let args′ = c .before .before .before .before .before .before .before .before .before .before .args in
-    omega (arith, whole _ (pre′ .0) (args′ .k) (pre′ .1 .0) .node .down, whole _ (pre′ .0) (args′ .k) (pre′ .1 .0) .node .inside)
+    omega (arith, whole _ (pre′ .0 .walk) (args′ .k) (pre′ .1 .0) .node .down, whole _ (pre′ .0 .walk) (args′ .k) (pre′ .1 .0) .node .inside)
 
 sub-backward-columns : tie.Need-sub-backward-columns
 sub-backward-columns c =
     let pre′ = c .before .before .before .before .before .before .before .before .before .before .pre in
     let args′ = c .before .before .before .before .before .before .before .before .before .before .args in
-    omega (arith, whole _ (pre′ .0) (args′ .k) (pre′ .1 .0) .node .down)
+    omega (arith, whole _ (pre′ .0 .walk) (args′ .k) (pre′ .1 .0) .node .down)
 
 part-backward-columns-start : tie.Need-part-backward-columns-start
 part-backward-columns-start c =
     let pre′ = c .before .before .before .before .before .before .before .before .before .before .pre in
     let args′ = c .before .before .before .before .before .before .before .before .before .before .args in
-    omega (arith, whole _ (pre′ .0) (args′ .k) (pre′ .1 .0) .node .down)
+    omega (arith, whole _ (pre′ .0 .walk) (args′ .k) (pre′ .1 .0) .node .down)
 
 part-backward-columns-end : tie.Need-part-backward-columns-end
 part-backward-columns-end c =
     let pre′ = c .before .before .before .before .before .before .before .before .before .before .pre in
     let args′ = c .before .before .before .before .before .before .before .before .before .before .args in
-    omega (arith, whole _ (pre′ .0) (args′ .k) (pre′ .1 .0) .node .inside)
+    omega (arith, whole _ (pre′ .0 .walk) (args′ .k) (pre′ .1 .0) .node .inside)
 
 mul-backward-columns-2 : tie.Need-mul-backward-columns-2
 mul-backward-columns-2 c =

@@ -23,7 +23,7 @@ unfolding offset forward
 loop-holds c =
     let args′ = c .before .before .before .before .before .args in
     let pre′ = c .before .before .before .before .before .pre in
-    (omega arith, refl, refl, sym (ap (forward (laid (length (args′ .x .now)) (args′ .firsts .now) (args′ .starts .now) (args′ .rows .now)) (args′ .values .now) (args′ .x .now)) (pre′ .0 .framed .from)))
+    (omega arith, refl, refl, sym (ap (forward (laid (length (args′ .x .now)) (args′ .firsts .now) (args′ .starts .now) (args′ .rows .now)) (args′ .values .now) (args′ .x .now)) (pre′ .0 .walk .framed .from)))
 
 add-loop : tie.Need-add-loop Inv-loop μ-loop
 add-loop c = omega arith
@@ -59,7 +59,7 @@ returns c =
     let args′ = c .before .before .before .before .before .before .before .args in
     let pre′ = c .before .before .before .before .before .before .before .pre in
     let e : loop′ .k ≡ length (args′ .firsts .now) - 1 = omega arith in
-    loop′ .inv .3 ∙ ap (forward (laid (length (args′ .x .now)) (args′ .firsts .now) (args′ .starts .now) (args′ .rows .now)) (args′ .values .now) (args′ .x .now)) (ap (λ i. getD (args′ .firsts .now) i 0) e ∙ pre′ .0 .framed .ends)
+    loop′ .inv .3 ∙ ap (forward (laid (length (args′ .x .now)) (args′ .firsts .now) (args′ .starts .now) (args′ .rows .now)) (args′ .values .now) (args′ .x .now)) (ap (λ i. getD (args′ .firsts .now) i 0) e ∙ pre′ .0 .walk .framed .ends)
 
 pub forward-spec : {M : Type 1} → statement M
 forward-spec = tie.close (tie.spec Inv-loop μ-loop loop-holds add-loop forward-supernode-requires add-k loop-less loop-again same-length returns)

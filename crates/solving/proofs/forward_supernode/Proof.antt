@@ -24,17 +24,17 @@ sub-w : tie.Need-sub-w
 sub-w c =
     let pre′ = c .before .before .before .before .before .before .before .pre in
     let args′ = c .before .before .before .before .before .before .before .args in
-    omega (arith, whole _ (pre′ .0) (args′ .k) (pre′ .1 .0) .node .right)
+    omega (arith, whole _ (pre′ .0 .walk) (args′ .k) (pre′ .1 .0) .node .right)
 
 mul-s : tie.Need-mul-s
 mul-s c =
     let pre′ = c .before .before .before .before .before .before .before .pre in
-    omega (arith, pre′ .0 .framed .long)
+    omega (arith, pre′ .0 .walk .framed .long)
 
 shared-slice-read-s : tie.Need-shared-slice-read-s
 shared-slice-read-s c =
     let pre′ = c .before .before .before .before .before .before .before .before .pre in
-    omega (arith, pre′ .0 .framed .long)
+    omega (arith, pre′ .0 .walk .framed .long)
 
 add-e : tie.Need-add-e
 add-e c = omega arith
@@ -42,36 +42,36 @@ add-e c = omega arith
 mul-e : tie.Need-mul-e
 mul-e c =
     let pre′ = c .before .before .before .before .before .before .before .before .pre in
-    omega (arith, pre′ .0 .framed .long)
+    omega (arith, pre′ .0 .walk .framed .long)
 
 shared-slice-read-e : tie.Need-shared-slice-read-e
 shared-slice-read-e c =
     let pre′ = c .before .before .before .before .before .before .before .before .before .pre in
-    omega (arith, pre′ .0 .framed .long)
+    omega (arith, pre′ .0 .walk .framed .long)
 
 mul-forward-columns : tie.Need-mul-forward-columns
 mul-forward-columns c =
     let pre′ = c .before .before .before .before .before .before .before .before .before .pre in
     let args′ = c .before .before .before .before .before .before .before .before .before .args in
-    omega (arith, whole _ (pre′ .0) (args′ .k) (pre′ .1 .0) .node .down, whole _ (pre′ .0) (args′ .k) (pre′ .1 .0) .node .inside)
+    omega (arith, whole _ (pre′ .0 .walk) (args′ .k) (pre′ .1 .0) .node .down, whole _ (pre′ .0 .walk) (args′ .k) (pre′ .1 .0) .node .inside)
 
 sub-forward-columns : tie.Need-sub-forward-columns
 sub-forward-columns c =
     let pre′ = c .before .before .before .before .before .before .before .before .before .pre in
     let args′ = c .before .before .before .before .before .before .before .before .before .args in
-    omega (arith, whole _ (pre′ .0) (args′ .k) (pre′ .1 .0) .node .down)
+    omega (arith, whole _ (pre′ .0 .walk) (args′ .k) (pre′ .1 .0) .node .down)
 
 part-forward-columns-start : tie.Need-part-forward-columns-start
 part-forward-columns-start c =
     let pre′ = c .before .before .before .before .before .before .before .before .before .pre in
     let args′ = c .before .before .before .before .before .before .before .before .before .args in
-    omega (arith, whole _ (pre′ .0) (args′ .k) (pre′ .1 .0) .node .down)
+    omega (arith, whole _ (pre′ .0 .walk) (args′ .k) (pre′ .1 .0) .node .down)
 
 part-forward-columns-end : tie.Need-part-forward-columns-end
 part-forward-columns-end c =
     let pre′ = c .before .before .before .before .before .before .before .before .before .pre in
     let args′ = c .before .before .before .before .before .before .before .before .before .args in
-    omega (arith, whole _ (pre′ .0) (args′ .k) (pre′ .1 .0) .node .inside)
+    omega (arith, whole _ (pre′ .0 .walk) (args′ .k) (pre′ .1 .0) .node .inside)
 
 mul-forward-columns-2 : tie.Need-mul-forward-columns-2
 mul-forward-columns-2 c =
@@ -104,13 +104,13 @@ sub-column-start : tie.Need-sub-column-start
 sub-column-start c =
     let pre′ = c .before .before .before .before .before .before .before .before .before .before .before .before .before .before .before .pre in
     let args′ = c .before .before .before .before .before .before .before .before .before .before .before .before .before .before .before .args in
-    omega (arith, whole _ (pre′ .0) (args′ .k) (pre′ .1 .0) .node .down)
+    omega (arith, whole _ (pre′ .0 .walk) (args′ .k) (pre′ .1 .0) .node .down)
 
 column-start-requires : tie.Need-column-start-requires
 column-start-requires c κs =
     let pre′ = c .before .before .before .before .before .before .before .before .before .before .before .before .before .before .before .pre in
     let args′ = c .before .before .before .before .before .before .before .before .before .before .before .before .before .before .before .args in
-    (whole _ (pre′ .0) (args′ .k) (pre′ .1 .0) .wide, omega (arith, whole _ (pre′ .0) (args′ .k) (pre′ .1 .0) .few, pre′ .1 .1 .1 .1))
+    (whole _ (pre′ .0 .walk) (args′ .k) (pre′ .1 .0) .wide, omega (arith, whole _ (pre′ .0 .walk) (args′ .k) (pre′ .1 .0) .few, pre′ .1 .1 .1 .1))
 
 add-result : tie.Need-add-result
 add-result c =

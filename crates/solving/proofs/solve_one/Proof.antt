@@ -19,7 +19,7 @@ forward-requires c κs =
     let gather′ = c .before .before .before .gather in
     let pre′ = c .before .before .before .before .before .before .before .before .before .before .before .before .before .pre in
     let s = solving-at (args′ .firsts .now) (args′ .starts .now) (args′ .rows .now) (args′ .permutation .now) (args′ .values .now) (args′ .entries) _ _ (gather′ .kept .1 .1 .0) (pre′ .0) in
-    (s .walk, omega (arith, s .sized, s .room))
+    (s .walked, omega (arith, s .sized, s .room))
 
 backward-requires : tie.Need-backward-requires
 backward-requires c κs =
@@ -28,7 +28,7 @@ backward-requires c κs =
     let gather′ = c .before .before .before .before .before .before .before .gather in
     let pre′ = c .before .before .before .before .before .before .before .before .before .before .before .before .before .before .before .before .before .pre in
     let s = solving-at (args′ .firsts .now) (args′ .starts .now) (args′ .rows .now) (args′ .permutation .now) (args′ .values .now) (args′ .entries) _ _ (forward′ .kept .1 .1 .1 .1 .0 ∙ gather′ .kept .1 .1 .0) (pre′ .0) in
-    (s .walk, (s .sized, (s .room, s .few)))
+    (s .walked, (s .sized, (s .room, s .few)))
 
 scatter-requires : tie.Need-scatter-requires
 scatter-requires c κs =
