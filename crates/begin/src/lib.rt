@@ -66,8 +66,8 @@ fn prepare(
     b
 }
 
-// The structure, number 8, and what the run reads, over areas 1 to 6 and values that it clears; the scratch and area 9 are written
-// whole, and long is area 10's length. Where it is refused, what it leaves in the areas is not said.
+// The structure, number 8, and what the run reads. Areas 1 to 6 and the values are cleared before; area 9 is written whole, and of the
+// scratch nothing is read that was not written here. long is area 10's length. Where it is refused, what it leaves in the areas is not said.
 pub fn begin(
     n: usize,
     input_starts: &[usize],
