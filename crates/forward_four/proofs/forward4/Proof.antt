@@ -5,6 +5,10 @@ use Rattle.forward_four.proofs.Columns.{four-is}
 use Rattle.forward_four.proofs.forward4.Statement.{statement}
 use Rattle.forward_four.proofs.forward4.Tie as tie
 
+-- from where the four quotients are known back to the start
+abbrev entry : tie.After-shared-slice-known14 → tie.Start
+entry c = c .before .before .before .before .before .before .before .before .before .before .before .before .before .before .before .before .before .before .before
+
 mul-y0 : tie.Need-mul-y0
 mul-y0 c = omega arith
 
@@ -82,7 +86,7 @@ mul-x-2 c = omega arith
 
 slice-write-x-2 : tie.Need-slice-write-x-2
 slice-write-x-2 c =
-    let pre′ = c .before .before .before .before .before .before .before .before .before .before .before .before .before .before .before .before .before .before .before .pre in
+    let pre′ = entry c .pre in
     simp length-set (omega (arith, pre′ .room, pre′ .first))
 
 add-x-2 : tie.Need-add-x-2
@@ -93,7 +97,7 @@ mul-x-3 c = omega arith
 
 slice-write-x-3 : tie.Need-slice-write-x-3
 slice-write-x-3 c =
-    let pre′ = c .before .before .before .before .before .before .before .before .before .before .before .before .before .before .before .before .before .before .before .pre in
+    let pre′ = entry c .pre in
     simp length-set (omega (arith, pre′ .room, pre′ .first))
 
 add-x-3 : tie.Need-add-x-3
@@ -104,7 +108,7 @@ mul-x-4 c = omega arith
 
 slice-write-x-4 : tie.Need-slice-write-x-4
 slice-write-x-4 c =
-    let pre′ = c .before .before .before .before .before .before .before .before .before .before .before .before .before .before .before .before .before .before .before .pre in
+    let pre′ = entry c .pre in
     simp length-set (omega (arith, pre′ .room, pre′ .first))
 
 add-subtract4 : tie.Need-add-subtract4
@@ -115,7 +119,7 @@ sub-subtract4 c = omega arith
 
 subtract4-requires : tie.Need-subtract4-requires
 subtract4-requires c κs =
-    let pre′ = c .before .before .before .before .before .before .before .before .before .before .before .before .before .before .before .before .before .before .before .before .pre in
+    let pre′ = entry (c .before) .pre in
     simp length-set (omega (arith, pre′ .room, pre′ .first, pre′ .second, pre′ .third, pre′ .some))
 
 same-length : tie.Need-same-length
@@ -125,10 +129,10 @@ same-length c =
 
 returns : tie.Need-returns
 returns c =
-    let args′ = c .before .before .before .before .before .before .before .before .before .before .before .before .before .before .before .before .before .before .before .before .before .before .before .args in
-    let pre′ = c .before .before .before .before .before .before .before .before .before .before .before .before .before .before .before .before .before .before .before .before .before .before .before .pre in
+    let start = entry (c .before .before .before .before) in
+    let args′ = start .args in
     let subtract4′ = c .before .before .subtract4 in
-    four-is (args′ .x .now) (args′ .v0 .now) (args′ .v1 .now) (args′ .v2 .now) (args′ .v3 .now) (args′ .q) pre′ _ (subtract4′ .ensures)
+    four-is (args′ .x .now) (args′ .v0 .now) (args′ .v1 .now) (args′ .v2 .now) (args′ .v3 .now) (args′ .q) (start .pre) _ (subtract4′ .ensures)
 
 pub forward4-spec : {M : Type 1} → statement M
 forward4-spec =

@@ -1,12 +1,13 @@
 -- `products::by_fours` meets its contract. The sums over the columns below k stand in work. Assumes nothing.
 use mathlib.Core.Path.{_≡_, refl, _∙_}
-use Prim.Native.Nat.{_+_, _-_, _≤_}
+use Prim.Native.Nat.{ℕ, _+_, _-_, _≤_}
 use native.Mathlib.Omega.{arith}
 use Rattle.statement.specs.Shape.{trapezoid}
 use Rattle.products.proofs.Rising as rise
 use Rattle.laws.proofs.Entry.{trap-mono}
 use lib.ListN.{length}
-use Prim.Native.Nat.{_<_}
+use mir.Syntax.{w64}
+use mir.Val.{Fits}
 use native.Mathlib.Nat.{le-trans}
 use Rattle.products.proofs.by_fours.Statement.{statement}
 use Rattle.products.proofs.by_fours.Tie as tie
@@ -16,6 +17,33 @@ Inv-loop work₀ v m q kw from n k₀ src₀ work k src = (k ≤ kw) × (src ≡
 
 abbrev μ-loop : tie.MeasureT-loop
 μ-loop work₀ v m q kw from n k₀ src₀ work k src = kw - k
+
+-- from a turn back to the start
+abbrev start : tie.In-loop Inv-loop μ-loop → tie.Start Inv-loop μ-loop
+start c = c .before .before .before .before .before
+
+-- where row q of the four columns of a turn stands, and of the one after them
+turn : (c : tie.In-loop Inv-loop μ-loop) →
+    let a = start c .args in
+    let l = c .before .loop in
+    let d = a .m - l .k in
+    let s1 = l .src + d - 1 in
+    let s2 = s1 + d - 2 in
+    let s3 = s2 + d - 3 in
+    let s4 = s3 + d - 4 in
+    rise.Four (a .m) (l .k) (a .q) (length (a .v .now)) (l .src) s1 s2 s3 s4
+turn c =
+    let a = start c .args in
+    let p = start c .pre in
+    let l = c .before .loop in
+    rise.fours (a .m) (l .k) (a .q) (a .kw) _ (l .src) _ _ _ _ (p .above) (p .here) (p .stored) (l .inv .1) refl refl refl refl (c .loop-test .taken)
+
+-- no place of a turn wraps, and none is below what is taken off it
+fits : (c : tie.In-loop Inv-loop μ-loop) (s : ℕ) → s + (start c .args .m - start c .args .q) ≤ length (start c .args .v .now) → Fits w64 (s + (start c .args .m - c .before .loop .k))
+fits c s h = rise.wide s (start c .args .m) (c .before .loop .k) _ _ h (omega arith) (start c .pre .few)
+
+enough : (c : tie.In-loop Inv-loop μ-loop) (s j : ℕ) → j ≤ 4 → j ≤ s + (start c .args .m - c .before .loop .k)
+enough c s j h = rise.enough s (start c .args .m) (c .before .loop .k) j (omega arith)
 
 sub-n : tie.Need-sub-n Inv-loop μ-loop
 sub-n c = omega arith
@@ -45,77 +73,35 @@ sub-d : tie.Need-sub-d Inv-loop μ-loop
 sub-d c = omega arith
 
 add-s1 : tie.Need-add-s1 Inv-loop μ-loop
-add-s1 c =
-    let args′ = c .before .before .before .before .before .args in
-    let loop′ = c .before .loop in
-    let pre′ = c .before .before .before .before .before .pre in
-    let loop-test′ = c .loop-test in
-    let b : length (args′ .v .now) < 9223372036854775808 = omega arith in
-    let f = rise.fours (args′ .m) (loop′ .k) (args′ .q) (args′ .kw) _ (loop′ .src) _ _ _ _ (pre′ .above) (pre′ .here) (pre′ .stored) (loop′ .inv .1) refl refl refl refl (loop-test′ .taken) in
-    rise.wide _ (args′ .m) (loop′ .k) _ _ (f .in₀) b (pre′ .few)
+add-s1 c = fits c _ (turn c .in₀)
 
 sub-s1 : tie.Need-sub-s1 Inv-loop μ-loop
-sub-s1 c =
-    let args′ = c .before .before .before .before .before .args in
-    let loop′ = c .before .loop in
-    rise.enough _ (args′ .m) (loop′ .k) 1 (omega arith)
+sub-s1 c = enough c _ 1 (omega arith)
 
 add-s2 : tie.Need-add-s2 Inv-loop μ-loop
-add-s2 c =
-    let args′ = c .before .before .before .before .before .args in
-    let loop′ = c .before .loop in
-    let pre′ = c .before .before .before .before .before .pre in
-    let loop-test′ = c .loop-test in
-    let b : length (args′ .v .now) < 9223372036854775808 = omega arith in
-    let f = rise.fours (args′ .m) (loop′ .k) (args′ .q) (args′ .kw) _ (loop′ .src) _ _ _ _ (pre′ .above) (pre′ .here) (pre′ .stored) (loop′ .inv .1) refl refl refl refl (loop-test′ .taken) in
-    rise.wide _ (args′ .m) (loop′ .k) _ _ (f .in₁) b (pre′ .few)
+add-s2 c = fits c _ (turn c .in₁)
 
 sub-s2 : tie.Need-sub-s2 Inv-loop μ-loop
-sub-s2 c =
-    let args′ = c .before .before .before .before .before .args in
-    let loop′ = c .before .loop in
-    rise.enough _ (args′ .m) (loop′ .k) 2 (omega arith)
+sub-s2 c = enough c _ 2 (omega arith)
 
 add-s3 : tie.Need-add-s3 Inv-loop μ-loop
-add-s3 c =
-    let args′ = c .before .before .before .before .before .args in
-    let loop′ = c .before .loop in
-    let pre′ = c .before .before .before .before .before .pre in
-    let loop-test′ = c .loop-test in
-    let b : length (args′ .v .now) < 9223372036854775808 = omega arith in
-    let f = rise.fours (args′ .m) (loop′ .k) (args′ .q) (args′ .kw) _ (loop′ .src) _ _ _ _ (pre′ .above) (pre′ .here) (pre′ .stored) (loop′ .inv .1) refl refl refl refl (loop-test′ .taken) in
-    rise.wide _ (args′ .m) (loop′ .k) _ _ (f .in₂) b (pre′ .few)
+add-s3 c = fits c _ (turn c .in₂)
 
 sub-s3 : tie.Need-sub-s3 Inv-loop μ-loop
-sub-s3 c =
-    let args′ = c .before .before .before .before .before .args in
-    let loop′ = c .before .loop in
-    rise.enough _ (args′ .m) (loop′ .k) 3 (omega arith)
+sub-s3 c = enough c _ 3 (omega arith)
 
 add4-requires : tie.Need-add4-requires Inv-loop μ-loop
 add4-requires c κs =
-    let args′ = c .before .before .before .before .before .before .args in
-    let loop′ = c .before .before .loop in
-    let pre′ = c .before .before .before .before .before .before .pre in
-    let loop-test′ = c .before .loop-test in
-    let f = rise.fours (args′ .m) (loop′ .k) (args′ .q) (args′ .kw) _ (loop′ .src) _ _ _ _ (pre′ .above) (pre′ .here) (pre′ .stored) (loop′ .inv .1) refl refl refl refl (loop-test′ .taken) in
-    (rise.some _ _ (pre′ .here), f .in₀, f .in₁, f .in₂, f .in₃, rise.begun-on _ pre′ (loop′ .inv .2) (loop′ .inv .0) .room)
+    let t = c .before in
+    let f = turn t in
+    let l = t .before .loop in
+    (rise.some _ _ (start t .pre .here), f .in₀, f .in₁, f .in₂, f .in₃, rise.begun-on _ (start t .pre) (l .inv .2) (l .inv .0) .room)
 
 add-src-2 : tie.Need-add-src-2 Inv-loop μ-loop
-add-src-2 c =
-    let args′ = c .before .before .before .before .before .before .before .before .before .args in
-    let loop′ = c .before .before .before .before .before .loop in
-    let pre′ = c .before .before .before .before .before .before .before .before .before .pre in
-    let loop-test′ = c .before .before .before .before .loop-test in
-    let b : length (args′ .v .now) < 9223372036854775808 = omega arith in
-    let f = rise.fours (args′ .m) (loop′ .k) (args′ .q) (args′ .kw) _ (loop′ .src) _ _ _ _ (pre′ .above) (pre′ .here) (pre′ .stored) (loop′ .inv .1) refl refl refl refl (loop-test′ .taken) in
-    rise.wide _ (args′ .m) (loop′ .k) _ _ (f .in₃) b (pre′ .few)
+add-src-2 c = let t = c .before .before .before .before in fits t _ (turn t .in₃)
 
 sub-src-2 : tie.Need-sub-src-2 Inv-loop μ-loop
-sub-src-2 c =
-    let args′ = c .before .before .before .before .before .before .before .before .before .args in
-    let loop′ = c .before .before .before .before .before .loop in
-    rise.enough _ (args′ .m) (loop′ .k) 4 (omega arith)
+sub-src-2 c = enough (c .before .before .before .before) _ 4 (omega arith)
 
 add-k : tie.Need-add-k Inv-loop μ-loop
 add-k c = omega arith
@@ -125,13 +111,11 @@ loop-less c = omega arith
 
 loop-again : tie.Need-loop-again Inv-loop μ-loop
 loop-again c =
-    let args′ = c .before .before .before .before .before .before .before .before .before .args in
-    let loop′ = c .before .before .before .before .before .loop in
-    let pre′ = c .before .before .before .before .before .before .before .before .before .pre in
-    let loop-test′ = c .before .before .before .before .loop-test in
-    let add4′ = c .before .before .add4 in
-    let f = rise.fours (args′ .m) (loop′ .k) (args′ .q) (args′ .kw) _ (loop′ .src) _ _ _ _ (pre′ .above) (pre′ .here) (pre′ .stored) (loop′ .inv .1) refl refl refl refl (loop-test′ .taken) in
-    (loop-test′ .taken, f .at₄, rise.summed-more4 _ (args′ .v .now) (args′ .m) (args′ .q) _ _ _ (loop′ .k) _ _ _ _ _ _ (le-trans (loop-test′ .taken) (pre′ .above)) f (loop′ .inv .2) (add4′ .ensures))
+    let t = c .before .before .before .before in
+    let a = start t .args in
+    let l = t .before .loop in
+    let f = turn t in
+    (t .loop-test .taken, f .at₄, rise.summed-more4 _ (a .v .now) (a .m) (a .q) _ _ _ (l .k) _ _ _ _ _ _ (le-trans (t .loop-test .taken) (start t .pre .above)) f (l .inv .2) (c .before .before .add4 .ensures))
 
 by-ones-requires : tie.Need-by-ones-requires Inv-loop μ-loop
 by-ones-requires c κs =
