@@ -4,12 +4,11 @@
 pub mod cholesky;
 use cholesky::{Factor, Symbolic, UpperColumns};
 
-/// A matrix, its factor, and values that are ready to be factored again.
+/// A matrix and its factor.
 pub struct Engine {
     pub a: UpperColumns,
     pub y: Symbolic,
     pub f: Factor,
-    v: Vec<Vec<f64>>,
 }
 
 impl Engine {
@@ -17,8 +16,7 @@ impl Engine {
         let a = UpperColumns { n, ptr: starts.to_vec(), idx: rows.to_vec(), val: values.to_vec() };
         let y = Symbolic::new(&a, usize::MAX).unwrap();
         let f = Factor::new(&a, usize::MAX).unwrap();
-        let v = y.allocate().unwrap();
-        Engine { a, y, f, v }
+        Engine { a, y, f }
     }
 
     #[inline(never)]
@@ -31,15 +29,19 @@ impl Engine {
         Factor::new(&self.a, usize::MAX).unwrap()
     }
 
-    pub fn clear(&mut self) {
-        self.v.iter_mut().for_each(|x| x.fill(0.0));
+    /// Values that are allocated and cleared, every page of them written.
+    pub fn values(&self) -> Vec<Vec<f64>> {
+        let mut v = self.y.allocate().unwrap();
+        v.iter_mut().for_each(|x| x.fill(1.0));
+        v.iter_mut().for_each(|x| x.fill(0.0));
+        v
     }
 
     /// Into values that were cleared beforehand.
     #[inline(never)]
-    pub fn ready(&mut self) -> Symbolic {
+    pub fn ready(&self, v: &mut Vec<Vec<f64>>) -> Symbolic {
         let y = self.analyse();
-        y.factor(&mut self.v, |c, j, done, base, own| c.supernode(j, done, base, own)).unwrap();
+        y.factor(v, |c, j, done, base, own| c.supernode(j, done, base, own)).unwrap();
         y
     }
 

@@ -45,7 +45,7 @@ with='' flags='' link=''
 peer() {
     printf '#include <suitesparse/%s>\nint main(void) { return 0; }\n' "$3" > probe.c
     if command -v cc > /dev/null && cc -o probe probe.c "-l$4" 2> /dev/null; then
-        flags="$flags -D$2" with="$with --cfg $(echo "$2" | tr A-Z a-z)" link="$link -l $4"
+        flags="$flags -D$2" with="$with --cfg $(echo "$2" | tr '[:upper:]' '[:lower:]')" link="$link -l $4"
     else
         echo "$1: skipped, its header or library (libsuitesparse-dev) or a C compiler is not there"
     fi

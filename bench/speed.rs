@@ -2,8 +2,8 @@
 // values and solutions to the Rust's, bit for bit. bench/run.sh builds and runs it.
 //   speed [TURNS | growth]      growth: how much memory inputs of these kinds have lent, and nothing is timed
 // 'factor, made': the whole call, all memory allocated in the time measured. 'factor, ready': the values (the Rust), all areas (here) are
-// allocated and written beforehand, as a caller who factors again has them; the Rust still allocates its structure, and the library clears
-// its areas once more. 'analyse': areas ready. 'solve': one right side, one call. 'solve, 40': forty right sides, here by one call. The freeing of memory is
+// allocated and written beforehand, as a caller who factors again has them, and anew for each turn, since where in memory they come to lie
+// makes a tenth; the Rust still allocates its structure. 'analyse': areas ready. 'solve': one right side, one call. 'solve, 40': forty right sides, here by one call. The freeing of memory is
 // not measured. Time is the thread's time on a processor, so that waiting for other programs does not count.
 mod nosebagged;
 use engine_any::Engine;
@@ -235,8 +235,8 @@ fn show(name: &str, a: &UpperColumns, y: &Symbolic) {
 const SIDES: usize = 40;
 
 fn whole(name: &str, a: &UpperColumns, turns: usize) {
-    let mut any = Engine::new(a.n, &a.ptr, &a.idx, &a.val);
-    let mut own = engine_own::Engine::new(a.n, &a.ptr, &a.idx, &a.val);
+    let any = Engine::new(a.n, &a.ptr, &a.idx, &a.val);
+    let own = engine_own::Engine::new(a.n, &a.ptr, &a.idx, &a.val);
     let y = any.analyse();
     show(name, a, &y);
     let run = |s: &mut Areas| nosebagged::factor(view(a), usize::MAX, Order::Plain, Stop::End, s).unwrap();
@@ -289,21 +289,26 @@ fn whole(name: &str, a: &UpperColumns, turns: usize) {
 
     by_turns("factor, ready", false, turns, vec![
         ("the Rust", Box::new(|| {
-            any.clear();
-            timed(|| any.ready()).0
+            let mut v = any.values();
+            timed(|| any.ready(&mut v)).0
         })),
         ("own vectors", Box::new(|| {
-            own.clear();
-            timed(|| own.ready()).0
+            let mut v = own.values();
+            timed(|| own.ready(&mut v)).0
         })),
-        ("here", Box::new(|| timed(|| run(&mut s)).0)),
+        ("here", Box::new(|| {
+            let mut s = touched(areas(a, &y));
+            timed(|| run(&mut s)).0
+        })),
     ]);
 
-    let mut only = touched(areas(a, &y));
     let mut each: Vec<Timed> = vec![
         ("the Rust", Box::new(|| timed(|| any.analyse()).0)),
         ("own vectors", Box::new(|| timed(|| own.analyse()).0)),
-        ("here", Box::new(|| timed(|| nosebagged::analyse(view(a), usize::MAX, &mut only).unwrap()).0)),
+        ("here", Box::new(|| {
+            let mut s = touched(areas(a, &y));
+            timed(|| nosebagged::analyse(view(a), usize::MAX, &mut s).unwrap()).0
+        })),
     ];
     each.extend(peer(|p| (p.2)(p.5)));
     by_turns("analyse", false, turns, each);
@@ -351,7 +356,10 @@ fn analyses(name: &str, a: &UpperColumns, turns: usize) {
     same_structure(&nosebagged::analyse(view(a), usize::MAX, &mut s).unwrap(), &s, &y);
     by_turns("analyse", true, turns, vec![
         ("the Rust", Box::new(|| timed(|| Symbolic::new(a, usize::MAX).unwrap()).0)),
-        ("here", Box::new(|| timed(|| nosebagged::analyse(view(a), usize::MAX, &mut s).unwrap()).0)),
+        ("here", Box::new(|| {
+            let mut s = touched(areas(a, &y));
+            timed(|| nosebagged::analyse(view(a), usize::MAX, &mut s).unwrap()).0
+        })),
     ]);
 }
 
