@@ -65,7 +65,6 @@ $rust -L . -l static=exports -o compare compare.rs
 # shellcheck disable=SC2086
 $rust -L . -l static=exports --extern engine_any=libengine_any.rlib --extern engine_own=libengine_own.rlib $with $link -o speed speed.rs
 ./compare
-export OMP_NUM_THREADS=1 OPENBLAS_NUM_THREADS=1
 echo "load before the timing: $(cut -d ' ' -f 1-3 /proc/loadavg), processors: $(nproc)"
-./speed "$turns"
+OMP_NUM_THREADS=1 OPENBLAS_NUM_THREADS=1 ./speed "$turns"
 echo "load after it: $(cut -d ' ' -f 1-3 /proc/loadavg)"
