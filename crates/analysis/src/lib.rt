@@ -1,5 +1,7 @@
 // From the tree and the counts to the structure of the factor, phase by phase over the areas: the permutation, the
 // supernodes, their rows and where the updates start.
+#![tactic(auto)]
+
 ghost use Rattle.std.specs.Prelude.{◌≡◌, false, [], ◌∷◌, ◌++◌, suc, ◌≤◌, ◌<◌, length, take, drop, replicate};
 ghost use Rattle.std.proofs.Math.Option.{none};
 ghost use Rattle.statement.specs.Input.{Columns, stored};

@@ -1,4 +1,6 @@
 // From the input to where the run can start: the structure, number 8, and the run's scratch.
+#![tactic(auto)]
+
 ghost use Rattle.std.specs.Prelude.{◌≡◌, ◌+◌, ◌*◌, ◌≤◌, length, take, drop};
 ghost use Rattle.statement.specs.Input.{matrix};
 ghost use Rattle.ready.specs.Known.{Known};

@@ -1,4 +1,6 @@
 // Number 11: whether a record and its areas are a full factor, for any record and any contents.
+#![tactic(auto)]
+
 ghost use Rattle.std.specs.Prelude.{◌≡◌, true, ◌&&◌, suc, ◌-◌, ◌≤◌, ◌<◌, length, get_or, leb};
 ghost use Rattle.statement.specs.Lists.{every};
 ghost use Rattle.statement.specs.Shape.{offset};

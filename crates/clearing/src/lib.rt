@@ -1,4 +1,6 @@
 // The areas of a call, cleared together, and what stands behind a list.
+#![tactic(auto)]
+
 ghost use Rattle.std.specs.Prelude.{◌≡◌, ◌++◌, ◌-◌, ◌≤◌, length, take, replicate};
 ghost use Rattle.statement.specs.Input.{+0};
 ghost use Rattle.clearing.specs.Zeroed.{ListsZeroed, Zeroed};

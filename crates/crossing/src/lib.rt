@@ -1,5 +1,7 @@
 // What crosses to programs in C and Rust: only numbers and slices do, so that enums and records are words; what each word means is
 // in specs/Words.
+#![tactic(auto)]
+
 ghost use Rattle.std.specs.Prelude.{◌≡◌, ◌++◌, ◌≤◌, length, drop};
 ghost use Rattle.statement.specs.Answers.{number};
 ghost use Rattle.crossing.specs.Words.{stage_word, answer_words, outcome_words, handed, order_said, stop_said, stage_said, record_said};

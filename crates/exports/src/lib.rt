@@ -1,4 +1,6 @@
 // The four calls for programs in C and Rust: the static library. What crosses, and what each word means, is in `crossing`.
+#![tactic(auto)]
+
 ghost use Rattle.std.specs.Prelude.{[], length};
 ghost use Rattle.statement.specs.Input.{matrix};
 ghost use Rattle.statement.specs.Calls.{analyse, factor};

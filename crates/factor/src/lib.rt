@@ -1,4 +1,6 @@
 // The second call: structure and values of a matrix's factor, in lent areas.
+#![tactic(auto)]
+
 ghost use Rattle.std.specs.Prelude.{length};
 ghost use Rattle.statement.specs.Input.{matrix};
 ghost use Rattle.statement.specs.Calls.{Factors};

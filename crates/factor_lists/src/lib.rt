@@ -1,5 +1,7 @@
 // The lists of a factor, each by itself, for any contents: what number 11 asks of the record and the lengths (a), of the permutation (b), of
 // the first columns (c) and of one supernode's rows (d).
+#![tactic(auto)]
+
 ghost use Rattle.std.specs.Prelude.{◌≡◌, true, [], ℕ, suc, ◌+◌, ◌-◌, ◌^◌, ◌≤◌, ◌<◌, length, get_or, eqb, ltb};
 ghost use Rattle.statement.specs.Lists.{every, tally};
 ghost use Rattle.statement.specs.Shape.{Shape, first, width, rows_of};

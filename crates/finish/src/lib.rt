@@ -1,4 +1,6 @@
 // From where the run ended to the answer and the areas: number 9, the split into tasks, the record and the last clearing.
+#![tactic(auto)]
+
 ghost use Rattle.std.specs.Prelude.{◌≡◌, ◌≤◌, length};
 ghost use Rattle.statement.specs.Input.{matrix};
 ghost use Rattle.statement.specs.Calls.{factor};

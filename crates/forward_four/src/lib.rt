@@ -1,4 +1,6 @@
 // Four columns of the forward pass at a time, where their rows follow each other: bit for bit what one after the other gives.
+#![tactic(auto)]
+
 ghost use Rattle.std.specs.Prelude.{◌≡◌, ◌+◌, ◌≤◌, length, get_or};
 ghost use Rattle.std.specs.Float.{nan};
 ghost use Rattle.areas.specs.Touch.{Touched};

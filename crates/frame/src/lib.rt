@@ -1,4 +1,6 @@
 // One line's frame: uppercase hexadecimal, read.
+#![tactic(auto)]
+
 ghost use Rattle.std.specs.Prelude.{◌≡◌, ℕ, ◌+◌, ◌/◌, ◌%◌, ◌^◌, ◌≤◌, ◌<◌, length};
 ghost use Rattle.std.proofs.Math.Option.{none, some};
 ghost use Rattle.statement.specs.Job.{hex_value, value_from, frame, frame_of};

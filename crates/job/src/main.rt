@@ -1,4 +1,6 @@
 // The job program (document 01, "Job frames"): reads standard input into a buffer, and writes what `answer_text` leaves.
+#![tactic(auto)]
+
 ghost use Rattle.std.specs.Prelude.{◌≡◌, List, ℕ, min};
 ghost use Rattle.statement.specs.Job.{ReadIn, Works};
 

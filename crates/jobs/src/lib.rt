@@ -1,4 +1,6 @@
 // A job, from its text to the text of its answer.
+#![tactic(auto)]
+
 ghost use Rattle.std.specs.Prelude.{◌≡◌, [], ◌≤◌, length};
 ghost use Rattle.statement.specs.Input.{matrix};
 ghost use Rattle.statement.specs.Job.{Frames, whole, matrix_of, job_room, written, answer_in, Works};

@@ -1,4 +1,6 @@
 // The updates, listed in area 10: each source's, as it is spotted in the words, is put to its place.
+#![tactic(auto)]
+
 ghost use Rattle.std.specs.Prelude.{◌≡◌, ◌+◌, ◌*◌, ◌≤◌, ◌<◌, length, get_or, drop};
 ghost use Rattle.updates.specs.Layout.{updates_at, offsets_at};
 ghost use Rattle.updates.specs.Laying.{said, written, ToLay, LaidOut};

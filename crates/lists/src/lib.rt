@@ -1,4 +1,6 @@
 // What the programs share that run lists: the numbers of a line, a sum by which two lists are compared, and what is written.
+#![tactic(auto)]
+
 ghost use Rattle.std.specs.Prelude.{◌≤◌, ◌<◌, length};
 
 use libc::STDOUT_FILENO;

@@ -1,4 +1,6 @@
 // The matrix by lower columns in factor numbering: factor columns are taken rising, so each lower column's rows rise.
+#![tactic(auto)]
+
 ghost use Rattle.std.specs.Prelude.{◌≡◌, ℕ, suc, ◌+◌, ◌≤◌, ◌<◌, length, get_or, set, drop};
 ghost use Rattle.areas.specs.Buckets.{Holds, Beyond};
 ghost use Rattle.lower.specs.Entries.{Sited, Counted, Put, Lowered, lower_rows, lower_start};

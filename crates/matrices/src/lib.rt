@@ -1,4 +1,6 @@
 // The matrices that the lines of a list say, for the program `widths`.
+#![tactic(auto)]
+
 use areas::copy_part;
 use frames::to_float;
 use std::num::{nearest_u64_to_f64, wrapping_add_usize};

@@ -1,5 +1,7 @@
 // The tests before the structure is built: numbers 1 to 4, the lengths of areas 1 to 8, and the cap, for which the tree
 // and the counts are found.
+#![tactic(auto)]
+
 ghost use Rattle.std.specs.Prelude.{◌≡◌, length};
 ghost use Rattle.statement.specs.Input.{matrix};
 ghost use Rattle.measure.specs.Sized.{Measured};

@@ -1,4 +1,6 @@
 // Where the supernodes' stretches start in the values.
+#![tactic(auto)]
+
 ghost use Rattle.std.specs.Prelude.{◌≡◌, ◌++◌, ◌≤◌, length, drop};
 ghost use Rattle.statement.specs.Lists.{list};
 ghost use Rattle.statement.specs.Shape.{Shape, offset};

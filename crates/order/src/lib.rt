@@ -1,4 +1,6 @@
 // Number 8: the order list and the stop count, by which a factor is partial or full; and the names along which the run goes.
+#![tactic(auto)]
+
 ghost use Rattle.std.specs.Prelude.{◌≡◌, cond, ◌++◌, ◌≢◌, ℕ, suc, ◌-◌, ◌≤◌, ◌<◌, ltb, length, get_or, set, take, drop};
 ghost use Rattle.statement.specs.Lists.{least, rising};
 ghost use Rattle.statement.specs.Shape.{Shape, supernodes};

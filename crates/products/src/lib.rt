@@ -1,5 +1,7 @@
 // The sums and products of 'Order of the arithmetic', a column's run of consecutive floats at a time: no operation is fused with another, a sum begins
 // at 0.0 and takes the columns from the lowest up.
+#![tactic(auto)]
+
 ghost use Rattle.std.specs.Prelude.{◌≡◌, ℕ, ◌+◌, ◌-◌, ◌<◌, ◌≤◌, get_or, length};
 ghost use Rattle.std.specs.Float.{nan, binary64};
 ghost use Rattle.std.specs.Float.Ieee.{sub, div};

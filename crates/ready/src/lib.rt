@@ -1,4 +1,6 @@
 // What the run reads, put into the scratch: clear flags, offsets, parents and the lower columns of A.
+#![tactic(auto)]
+
 ghost use Rattle.std.specs.Prelude.{◌+◌, ◌*◌, ◌≤◌, length};
 ghost use Rattle.statement.specs.Input.{matrix};
 ghost use Rattle.ready.specs.Known.{Known, Laid, Kept};

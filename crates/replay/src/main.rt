@@ -1,6 +1,8 @@
 // Compares whole jobs with the Rust's: standard input is a list of jobs, and the list of their answers is written. The two
 // are what the Rust's judge read and wrote (tests/replay). An item of a list is its length as eight digits, LF, its bytes,
 // LF; one that cannot stand, or has more than 131,071 bytes, ends the program.
+#![tactic(auto)]
+
 use jobs::run_job;
 use libc::{STDERR_FILENO, STDIN_FILENO, STDOUT_FILENO};
 use lines::put_hex;

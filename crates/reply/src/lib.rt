@@ -1,4 +1,6 @@
 // A job's factor to the text of its answer.
+#![tactic(auto)]
+
 ghost use Rattle.std.specs.Prelude.{◌≡◌, ◌≤◌, length};
 ghost use Rattle.statement.specs.Job.{Frames, whole, written, answer_in};
 ghost use Rattle.laws.specs.Lent.{lent};

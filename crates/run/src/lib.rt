@@ -1,5 +1,7 @@
 // The run of supernodes in order: one turn after the other, each with its updates copied among the words. A slice of updates is passed on, so
 // that the two are walked (tools/walk.py).
+#![tactic(auto)]
+
 ghost use Rattle.std.specs.Prelude.{◌-◌, ◌≤◌, ◌<◌, length};
 ghost use Rattle.updates.specs.Layout.{owners_at};
 ghost use Rattle.turn.specs.Run.{RunReady, RunLeft};

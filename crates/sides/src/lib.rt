@@ -1,4 +1,6 @@
 // The right sides of one call: whether they can be solved, and each solved by itself.
+#![tactic(auto)]
+
 ghost use Rattle.std.specs.Prelude.{◌≡◌, true, ◌*◌, ◌≤◌, length};
 ghost use Rattle.statement.specs.Solve.{shape_in, solvable, sides_limit, solutions, sides_fault};
 ghost use Rattle.laws.specs.Answered.{answered};

@@ -1,4 +1,6 @@
 // Solving with a full factor, and a view of one of its columns: for any record and any areas.
+#![tactic(auto)]
+
 ghost use Rattle.std.specs.Prelude.{◌≡◌, ℕ, suc, ◌-◌, ◌≤◌, ◌<◌, length, get_or};
 ghost use Rattle.statement.specs.Shape.{offset};
 ghost use Rattle.statement.specs.Solve.{values_in, solve, Solves, Views};

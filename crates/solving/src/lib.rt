@@ -1,4 +1,6 @@
 // One right side solved with a full factor: gather, forward, backward, scatter. Values may be any bits.
+#![tactic(auto)]
+
 ghost use Rattle.std.specs.Prelude.{◌≡◌, true, List, ℕ, suc, ◌+◌, ◌-◌, ◌≤◌, ◌<◌, length, get_or, drop, Float};
 ghost use Rattle.statement.specs.Lists.{place, list, rising};
 ghost use Rattle.statement.specs.Input.{+0};

@@ -1,5 +1,7 @@
 // What goes to the places of rows: values stored there, sums and products subtracted there, through the rows' positions or, where these follow each
 // other, as a run.
+#![tactic(auto)]
+
 ghost use Rattle.std.specs.Prelude.{◌≡◌, true, ◌+◌, ◌<◌, ◌≤◌, get_or, length};
 ghost use Rattle.std.specs.Float.{nan, binary64};
 ghost use Rattle.std.specs.Float.Ieee.{sub};

@@ -1,4 +1,6 @@
 // One supernode's step: its stretch of the values from A and the earlier supernodes' stretches.
+#![tactic(auto)]
+
 ghost use Rattle.std.specs.Prelude.{◌≡◌, length, take};
 ghost use Rattle.laws.specs.Lent.{laid};
 ghost use Rattle.laws.specs.Lower.{lower_value};

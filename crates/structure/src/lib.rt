@@ -1,4 +1,6 @@
 // Where the rows of each supernode start, its parent, and its rows, all in factor numbering.
+#![tactic(auto)]
+
 ghost use Rattle.std.specs.Prelude.{◌≡◌, false, cond, not, ◌++◌, ℕ, suc, ◌+◌, ◌≤◌, ◌<◌, T, eqb, ltb, length, get_or, set, take, drop};
 ghost use Rattle.statement.specs.Lists.{least};
 ghost use Rattle.statement.specs.Input.{Columns, stored};

@@ -1,6 +1,8 @@
 // Compares the structure with the Rust's: each line of standard input is a matrix (n, a, its n + 1 starts, its a rows),
 // and a line of sixteen numbers answers it. The two lists come from tests/structures. A line that is no such matrix, or
 // has more than 8,192 numbers, ends the program.
+#![tactic(auto)]
+
 ghost use Rattle.std.specs.Prelude.{◌≤◌};
 
 mod sums;

@@ -1,4 +1,6 @@
 // The structure of a matrix, from the input to the areas: every test of the analysis, and then the lists.
+#![tactic(auto)]
+
 ghost use Rattle.statement.specs.Input.{matrix};
 ghost use Rattle.survey.specs.Laid.{Surveyed, Blank};
 ghost use Rattle.survey.specs.Settles.{stale_of};

@@ -1,4 +1,6 @@
 // Tasks and top: subtrees of at most a share of the work, and the supernodes above them.
+#![tactic(auto)]
+
 ghost use Rattle.std.specs.Prelude.{◌≡◌, cond, ◌++◌, ◌∷◌, ℕ, suc, ◌+◌, ◌-◌, ◌*◌, ◌≤◌, ◌<◌, ◌/◌, ◌^◌, min, max, length, get_or, set, drop};
 ghost use Rattle.statement.specs.Lists.{sum, list};
 ghost use Rattle.statement.specs.Shape.{Shape, supernodes};

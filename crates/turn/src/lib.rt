@@ -1,5 +1,7 @@
 // One turn of the run: the step of a supernode, or the word to its parent that it was skipped or has failed. And what the run reads and
 // keeps among the words (crates/updates/specs/Layout.antt).
+#![tactic(auto)]
+
 ghost use Rattle.std.specs.Prelude.{◌≡◌, suc, ◌+◌, ◌-◌, ◌≤◌, ◌<◌, length, get_or, set, take, drop};
 ghost use Rattle.statement.specs.Run.{lesser};
 ghost use Rattle.laws.specs.Lent.{laid};

@@ -1,5 +1,7 @@
 // A lent slice of updates, read and written by thin functions: the borrow checker does not cover them, so that they are
 // walked by hand (tools/walk.py writes the longer walks).
+#![tactic(auto)]
+
 ghost use Rattle.std.specs.Prelude.{◌≡◌, ◌++◌, ◌-◌, ◌≤◌, ◌<◌, length, get_or, set, replicate, take, drop};
 ghost use Rattle.statement.specs.Areas.{no_update};
 

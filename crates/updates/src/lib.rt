@@ -1,4 +1,6 @@
 // The updates: for each supernode, the lower ones that have rows among its columns. The input names the structure only.
+#![tactic(auto)]
+
 ghost use Rattle.std.specs.Prelude.{◌≡◌, ◌++◌, suc, ◌+◌, ◌^◌, ◌≤◌, ◌<◌, length, get_or, drop};
 ghost use Rattle.statement.specs.Supernodes.{updates_of, updates, update_starts};
 ghost use Rattle.areas.specs.Buckets.{Holds};

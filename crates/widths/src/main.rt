@@ -1,6 +1,8 @@
 // Holds factor and solve to the Rust by bits: a line of standard input is a matrix, or a run of the last one, and a line of
 // nine numbers answers each run. tests/widths/list.rs says what the lines are, and makes the two lists. A line
 // that is no list of numbers, or has more than 4,096, ends the program.
+#![tactic(auto)]
+
 ghost use Rattle.std.specs.Prelude.{◌≡◌, ◌<◌, ◌≤◌, true};
 
 mod line;
