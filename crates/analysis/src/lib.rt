@@ -21,21 +21,21 @@ use structure::{node_starts, structure};
 use updates::update_starts;
 
 // The numbers of supernodes and of structure rows.
-#[derive(Drop)]
+#[derive(Clone, Copy)]
 struct Sizes {
     supernodes: usize,
     rows: usize,
 }
 
 // The number of updates, and whether a row structure differs from the counts.
-#[derive(Drop)]
+#[derive(Clone, Copy)]
 struct Found {
     updates: usize,
     differs: bool,
 }
 
 // What the analysis answers, and what it counted.
-#[derive(Drop)]
+#[derive(Clone, Copy)]
 pub struct Counts {
     pub answer: Answer,
     pub supernodes: usize,

@@ -1,7 +1,7 @@
 // What is done to a record or to its areas.
 use statement::{Record, Stage};
 
-#[derive(Drop)]
+#[derive(Clone, Copy)]
 pub enum Damage {
     Nothing,
     State(Stage),

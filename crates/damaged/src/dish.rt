@@ -4,7 +4,7 @@ ghost use Rattle.std.specs.Prelude.{◌≡◌, length};
 use statement::{Record, Stage};
 use std::num::nearest_u64_to_f64;
 
-#[derive(Drop)]
+#[derive(Clone, Copy)]
 pub enum Dish {
     // n = 6 of 'Sizes at the edges', with 1 for 2: five columns that meet in the last
     Six,

@@ -4,7 +4,7 @@ ghost use Rattle.std.specs.Prelude.{◌≤◌};
 use crate::damage::{fewer, more};
 use statement::Record;
 
-#[derive(Drop)]
+#[derive(Clone, Copy)]
 pub enum Lending {
     // what each area needs, and n numbers of the buffer
     Exact,

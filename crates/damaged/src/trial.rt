@@ -13,7 +13,7 @@ use statement::{Answer, Factored, Record};
 
 // What is called: solve for so many right sides, with all that can be said of it or with the number alone, or the view of a
 // column.
-#[derive(Drop)]
+#[derive(Clone, Copy)]
 pub enum Call {
     Solving { whole: bool, sides: usize },
     Viewing(usize),

@@ -9,7 +9,7 @@ ghost use Rattle.frame.specs.Line.{is_some, meant};
 use statement::Original;
 
 // A line's frame: `01` to `04`, or none.
-#[derive(Drop)]
+#[derive(Clone, Copy)]
 pub enum Frame {
     Begin {
         n: usize,

@@ -13,7 +13,7 @@ use statement::Original;
 
 // How far a job was read. Stage 0: before `01`; 1: among `02`; 2: among `03`; 3: after `04`; 4: at fault. The starts of
 // the columns up to `known` are known, and there are `count` entries and `given` right sides.
-#[derive(Drop)]
+#[derive(Clone, Copy)]
 pub struct Progress {
     pub stage: usize,
     pub n: usize,
@@ -24,7 +24,7 @@ pub struct Progress {
 }
 
 // What a text is: a job, or the first line that cannot stand.
-#[derive(Drop)]
+#[derive(Clone, Copy)]
 pub enum Read {
     Whole {
         n: usize,

@@ -6,14 +6,14 @@ ghost use Rattle.std.specs.Prelude.{◌≤◌, ◌<◌, length};
 use libc::STDOUT_FILENO;
 
 // A number, and where its digits end.
-#[derive(Drop)]
+#[derive(Clone, Copy)]
 struct Word {
     value: usize,
     end: usize,
 }
 
 // How many numbers a line has, and where the next line begins.
-#[derive(Drop)]
+#[derive(Clone, Copy)]
 pub struct Line {
     pub count: usize,
     pub end: usize,

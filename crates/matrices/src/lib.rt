@@ -6,7 +6,7 @@ use frames::to_float;
 use std::num::{nearest_u64_to_f64, wrapping_add_usize};
 
 // How many columns a matrix has, and how many stored rows.
-#[derive(Drop)]
+#[derive(Clone, Copy)]
 pub struct Size {
     pub n: usize,
     pub a: usize,

@@ -12,7 +12,7 @@ use statement::{Answer, Room};
 use tree::{entries, tree_and_counts, work};
 
 // The answer so far, and the record's entries and work figure.
-#[derive(Drop)]
+#[derive(Clone, Copy)]
 pub struct Totals {
     pub answer: Answer,
     pub entries: usize,

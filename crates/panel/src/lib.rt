@@ -45,7 +45,7 @@ pub fn entry_at(values: &[f64], m: usize, r: usize, c: usize) -> f64
 }
 
 // The trapezoid of m rows at the start of the values.
-#[derive(Drop)]
+#[derive(Clone, Copy)]
 pub struct Panel<'a> {
     pub m: usize,
     pub values: &'a [f64],

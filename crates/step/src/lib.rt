@@ -10,7 +10,7 @@ use assembly::assemble;
 use products::clear;
 use statement::Factored;
 
-#[derive(Drop)]
+#[derive(Clone, Copy)]
 pub enum StepAnswer {
     Made,
     // the first column whose pivot breaks the rule

@@ -13,7 +13,7 @@ use measure::measure;
 use statement::{Answer, Outcome, Room};
 
 // The answer, and what was counted.
-#[derive(Drop)]
+#[derive(Clone, Copy)]
 pub struct Findings {
     pub answer: Answer,
     pub supernodes: usize,

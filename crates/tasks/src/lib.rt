@@ -178,7 +178,7 @@ fn next(yes: bool, s: usize, e: usize) -> usize
 }
 
 // How many tasks and how many top entries there are.
-#[derive(Drop)]
+#[derive(Clone, Copy)]
 pub struct Cuts {
     pub tasks: usize,
     pub top: usize,

@@ -1,0 +1,6 @@
+-- `lower::append` meets its contract. Assumes nothing.
+use mathlib.Core.Path.{refl}
+use Rattle.lower.proofs.append.Goals as goal
+
+pub returns : goal.returns
+returns c = (refl, (refl, refl))

@@ -1,0 +1,6 @@
+-- `structure::append` meets its contract. Assumes nothing.
+use mathlib.Core.Path.{refl}
+use Rattle.structure.proofs.append.Goals as goal
+
+pub returns : goal.returns
+returns c = (refl, (refl, refl))

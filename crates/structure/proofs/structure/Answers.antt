@@ -1,0 +1,11 @@
+-- `structure::structure` meets its contract, call by call. Assumes nothing.
+use mathlib.Core.Path.{◌∙◌}
+use Rattle.structure.proofs.Twelve.{never_off}
+use Rattle.structure.proofs.Areas.{given_tail}
+use Rattle.structure.proofs.structure.Goals as goal
+
+pub rows-requires : goal.rows-requires
+rows-requires c = let q = c.requires in let a = c.args in (given_tail a.n a.input_starts.now a.input_rows.now a.permutation.now a.tasks.now a.words.now a.tasks.now q.given, q.1)
+
+pub returns : goal.returns
+returns c = let q = c.requires in let a = c.args in (c.differs.ensures ∙ never_off _ _ _ _ q.ns_value.1 c.rows.ensures.holds, c.rows.ensures.to_after)

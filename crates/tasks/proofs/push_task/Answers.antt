@@ -1,0 +1,5 @@
+-- `tasks::push_task` meets its contract. Assumes nothing.
+use Rattle.tasks.proofs.push_task.Goals as goal
+
+pub returns-then-yes : goal.returns-then-yes
+returns-then-yes c = (rw c.if-yes.true, rw c.if-yes.true)

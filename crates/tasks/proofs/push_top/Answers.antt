@@ -1,0 +1,5 @@
+-- `tasks::push_top` meets its contract. Assumes nothing.
+use Rattle.tasks.proofs.push_top.Goals as goal
+
+pub returns : goal.returns
+returns c = (rw c.if-no.false, rw c.if-no.false)

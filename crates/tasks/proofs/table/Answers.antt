@@ -1,0 +1,28 @@
+-- `tasks::table` meets its contract: call by call. Assumes nothing.
+use Rattle.tasks.proofs.Splitting.{spread_back, above_back, above_part}
+use lib.ListN.{length}
+use Prim.Native.Nat.{◌+◌, ◌-◌, ◌*◌, ◌≤◌}
+use Rattle.areas.proofs.Parts.{holds_copied}
+use Rattle.areas.proofs.Tail.{tail_length}
+use mathlib.Core.Path.{◌≡◌}
+use native.Mathlib.Omega.{arith}
+use Rattle.tasks.proofs.table.Goals as goal
+
+pub begins-requires : goal.begins-requires
+begins-requires c =
+    let pre' = c.requires in
+    let args' = c.args in
+    let loads' = c.loads in
+    (pre'.sized.1, rw (tail_length (args'.ns + 1) loads'.new.1.1.1.1.0 (omega (arith, pre'.ns_bound, loads'.auto))) (omega (arith, pre'.ns_bound, loads'.auto)))
+
+pub returns : goal.returns
+returns c =
+    let loads' = c.loads in
+    let args' = c.args in
+    let pre' = c.requires in
+    let begins' = c.begins in
+    let copy-part' = c.copy_part in
+    let w = loads'.new.1.1.1.1.0 in
+    let long = (let z : 3 * args'.ns + 3 ≤ length w = omega (arith, pre'.ns_bound, loads'.auto) in z) in
+    let ly = (let z : length begins'.new.1.1.0 ≡ length w - (args'.ns + 1) = omega (arith, begins'.auto, tail_length (args'.ns + 1) w (omega (arith, long))) in z) in
+    ((λ S g. spread_back args'.ns w _ _ long ly S (loads'.ensures S g) (begins'.ensures S g.tree) (holds_copied _ g.tree.are copy-part'.ensures)), above_back args'.ns w begins'.new.1.1.0 _ long ly (above_part _ pre'.sized.1 copy-part'.ensures))

@@ -1,0 +1,21 @@
+use Prim.Native.Nat.{◌-◌}
+use Rattle.tree.proofs.Steps.{stepped, rises, over, count_fits}
+use mathlib.Core.Logic.{inl}
+use mathlib.Core.Path.{refl}
+use native.Mathlib.Omega.{arith}
+use Rattle.tree.proofs.walk.Goals as goal
+
+pub loop-marks-init : goal.loop-marks-init
+loop-marks-init c = let q = c.requires in record { next = q.next; fill = q.fill; to = q.i_le_k; keep = λ j t. t; hit = inl refl }
+
+pub visit-requires : goal.visit-requires
+visit-requires c = let t = c.before.before.before in omega (arith, count_fits _ _ _ _ _ t.requires.k_lt_n _ _ _ _ _ t.loop-marks.invariant)
+
+pub loop-marks-smaller : goal.loop-marks-smaller
+loop-marks-smaller c = let v = c.before.before.before.before.before.before.before in let t = v.before.before.before.before in rises _ _ _ _ _ t.requires.k_lt_n _ _ _ _ _ t.loop-marks.invariant t.loop-marks-test.true _ _ _ v.visit.ensures.parents_after v.visit.ensures.counts_after v.visit.ensures.marks_after
+
+pub loop-marks-preserved : goal.loop-marks-preserved
+loop-marks-preserved c = let v = c.before.before.before.before.before.before.before in let t = v.before.before.before.before in stepped _ _ _ _ _ t.requires.k_lt_n _ _ _ _ _ t.loop-marks.invariant t.loop-marks-test.true _ _ _ v.visit.ensures.parents_after v.visit.ensures.counts_after v.visit.ensures.marks_after
+
+pub returns : goal.returns
+returns c = over _ _ _ _ _ c.requires.k_lt_n _ _ _ _ _ c.loop-marks.invariant c.loop-marks-test.false

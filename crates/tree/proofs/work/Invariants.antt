@@ -1,0 +1,11 @@
+-- `tree::work` meets its contract: after j turns the first j squares are added. Assumes nothing.
+use Prim.Native.Nat.{◌-◌, ◌*◌}
+use lib.ListN.{get_or}
+use Rattle.areas.proofs.Summed.{Summed}
+use Rattle.tree.proofs.work.Given as goal
+
+abbrev pub invariant-loop-j : goal.invariant-loop-j
+invariant-loop-j l = Summed (λ j. get_or l.counts j 0 * get_or l.counts j 0) l.n 1073741824 l.total l.j
+
+abbrev pub decreases-loop-j : goal.decreases-loop-j
+decreases-loop-j l = l.n - l.j
