@@ -122,6 +122,66 @@ def pick(digits, fields):
     return fields[-1], digits[k:]
 
 
+def tail_of(body):
+    """Where the expression after the last outer `in` begins."""
+    depth, at, i = 0, 0, 0
+    for m in re.finditer(r"[(\[{]|[)\]}]|(?<![^\s(])in(?![^\s])|(?<![^\s(])let(?![^\s])", body):
+        t = m.group(0)
+        if t in "([{":
+            depth += 1
+        elif t in ")]}":
+            depth -= 1
+        elif t == "in" and depth == 0:
+            at = m.end()
+    return at
+
+
+def halves(expr):
+    """The two parts of a pair in brackets, or None."""
+    e = expr.strip()
+    if not e.startswith("("):
+        return None
+    depth, comma = 0, None
+    for i, ch in enumerate(e):
+        if ch in "([{":
+            depth += 1
+        elif ch in ")]}":
+            depth -= 1
+            if depth == 0 and i != len(e) - 1:
+                return None
+        elif ch == "," and depth == 1 and comma is None:
+            comma = i
+    if comma is None:
+        return None
+    return e[1:comma].strip(), e[comma + 1:-1].strip()
+
+
+def as_record(body, fields, left):
+    """A tuple's answer as a record of the clauses' names."""
+    at = tail_of(body)
+    head, tail = body[:at], body[at:]
+    parts, rest = [], tail.strip()
+    for _ in fields[:-1]:
+        lets = tail_of(rest)
+        h = halves(rest)
+        if h is None:
+            break
+        parts.append(h[0])
+        rest = h[1]
+    parts.append(rest)
+    if len(parts) == len(fields):
+        return head + " record { " + " ".join(f"{f} = {p};" for f, p in zip(fields, parts)) + " }"
+    first = parts[-1].split()[0] if parts[-1].split() else ""
+    if first in ("omega", "search", "grind", "simp", "rw", "cc", "λ", "elim", "subst", "ap") or first.startswith("("):
+        left.append(f"clauses {fields} of {parts[-1][:60]!r}")
+        return body
+    out, k = [f"{f} = {p};" for f, p in zip(fields, parts[:-1])], len(parts) - 1
+    more = fields[k:]
+    for i, f in enumerate(more):
+        out.append(f"{f} = rest'" + ".1" * i + (".0" if i < len(more) - 1 else "") + ";")
+    return head + f" let rest' = {parts[-1]} in record {{ " + " ".join(out) + " }"
+
+
 class Fn:
     def __init__(self, crate, path, info):
         self.crate, self.path, self.info = crate, path, info
@@ -152,6 +212,10 @@ class Fn:
 
     def paths(self, body, place):
         table, clauses = self.steps(place)
+        callee = {}
+        for p in self.info["places"]:
+            if p[3] and p[2][0]:
+                callee.setdefault(norm(p[2][0]), self.info["params"].get(p[3]))
         pre = self.info["pre"]
         alias = {"c": ("at",)}
 
@@ -175,15 +239,16 @@ class Fn:
                     if x == "requires":
                         out += ".requires"
                         state = ("clauses", pre["fields"] if pre else None)
-                    elif norm(x) in table:
-                        out += "." + table[norm(x)]
-                        state = ("step", norm(x))
+                    elif norm(x) in table or (norm(x).endswith("2") and norm(x)[:-1] in table):
+                        o = norm(x) if norm(x) in table else norm(x)[:-1]
+                        out += "." + table[o]
+                        state = ("step", o)
                     elif norm(x) == "well_formed":
                         out += ".well_formed"
                         state = ("done",)
                     elif x == "args":
                         out += ".args"
-                        state = ("done",)
+                        state = ("word",)
                     else:
                         out += "." + x
                         state = ("done",)
@@ -195,9 +260,15 @@ class Fn:
                     elif x == "before":
                         state = ("at",)
                         out = head
+                    elif x in ("new", "last") and callee.get(state[1]):
+                        out += ".new"
+                        state = ("clauses", callee[state[1]])
                     else:
-                        out += "." + x
+                        out += "." + norm(x)
                         state = ("done",)
+                elif state[0] == "word":
+                    out += "." + norm(x)
+                    state = ("done",)
                 elif state[0] == "clauses" and state[1]:
                     digits = []
                     while k < len(parts) and parts[k] in ("0", "1"):
@@ -322,6 +393,34 @@ def turn(crate, fpath, info):
         sep = "\n    " if "\n" in m.group(5).rstrip() and m.group(5).startswith("\n") else " "
         inv_text.append(f"abbrev pub {kind}-{new} : goal.{kind}-{new}\n{kind}-{new} l ={sep}{body}")
     renamed = {a: goal[a][1] for a, _, _ in answers if a in goal}
+    # a helper over a place is a let of each answer that cites it
+    withs = []
+    for h in list(helpers):
+        hl = "\n".join(l for l in h.split("\n") if not l.startswith("--"))
+        m = re.match(rf"(?:pub )?({WORD}) : \(c : tie\.[^)]*\) →(.*?)\n((?:unfolding [^\n]*\n)?)\1 c((?: \S+)*?) =(.*)$", hl, re.S)
+        if m:
+            params = m.group(4).strip()
+            e = (f"λ {params}. " if params else "") + m.group(5).strip()
+            withs.append((m.group(1), m.group(2).strip(), e))
+            if m.group(3):
+                fn.left.append(f"helper {m.group(1)} {m.group(3).strip()}")
+            helpers.remove(h)
+
+    def lets_for(body):
+        want, out = set(), []
+        todo = body
+        while True:
+            more = [w for w in withs if w[0] not in want and used(todo, w[0])]
+            if not more:
+                break
+            for w in more:
+                want.add(w[0])
+                todo += " " + w[2] + " " + w[1]
+        for n, t, e in withs:
+            if n in want:
+                out.append(f"\n    let {n} : {fn.paths(t, None)} = {fn.paths(e, None)} in")
+        return out
+
     ans_text = []
     extra = set()
     for a, need, b in answers:
@@ -349,6 +448,12 @@ def turn(crate, fpath, info):
             body = re.sub(rf"(?<![\w.']){re.escape(m.group(1))}(?=[.\s)])", "c", body)
         place = place_of.get(old)
         body = fn.paths(body, place if place in fn.parent else None)
+        for h in reversed(lets_for(body)):
+            body = h + body
+        for h, _, _ in withs:
+            body = re.sub(rf"(?<![^\s(){{}}\[\];,])\(?{re.escape(h)} c(?:\.before)*\)?(?![.\w])" if False else rf"(?<![^\s(){{}}\[\];,]){re.escape(h)} c(?:\.before)*(?![.\w])", h, body)
+        if new in info["asked"] or old in info["asked"]:
+            body = as_record(body, info["asked"].get(new) or info["asked"].get(old), fn.left)
         for x, y in renamed.items():
             if used(body, x) and re.search(rf"(?<![^\s(){{}}\[\];,]){re.escape(x)} c\b", body):
                 body = re.sub(rf"(?<![^\s(){{}}\[\];,]){re.escape(x)} c\b", f"{y} c", body)

@@ -7,8 +7,8 @@ use borrow.Author.Tests.{not-true, not-false}
 pub true_T : {b : Bool} → b ≡ true → T b
 true_T e = rw e tt
 
-pub no : {r t : Bool} → r ≡ t → not r ≡ true → t ≡ false
-no {r} e h = sym e ∙ not-true r h
+pub no : {r t : Bool} → r ≡ t → r ≡ false → t ≡ false
+no e h = sym e ∙ h
 
-pub yes : {r t : Bool} → r ≡ t → not r ≡ false → t ≡ true
-yes {r} e h = sym e ∙ not-false r h
+pub yes : {r t : Bool} → r ≡ t → r ≡ true → t ≡ true
+yes e h = sym e ∙ h

@@ -12,5 +12,5 @@ returns c =
     let pre' = c.requires in
     let fill' = c.fill in
     let l = args'.s.now in
-    let zero : fill'.new.0 ≡ replicate (length (take (length l - args'.many) (drop args'.many l))) 0 = fill'.ensures in
-    tail_back args'.many l fill'.new.0 ∙ ap (λ x. take args'.many l ++ x) (zero ∙ ap (λ m. replicate m 0) (tail_length args'.many l pre'))
+    let zero : fill'.new.s ≡ replicate (length (take (length l - args'.many) (drop args'.many l))) 0 = fill'.ensures in
+    tail_back args'.many l fill'.new.s ∙ ap (λ x. take args'.many l ++ x) (zero ∙ ap (λ m. replicate m 0) (tail_length args'.many l pre'))

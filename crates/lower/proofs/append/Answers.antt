@@ -3,4 +3,4 @@ use mathlib.Core.Path.{refl}
 use Rattle.lower.proofs.append.Goals as goal
 
 pub returns : goal.returns
-returns c = (refl, (refl, refl))
+returns c = record { next_after = refl; to_rows_after = refl; to_values_after = refl }

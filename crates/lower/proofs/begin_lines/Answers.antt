@@ -10,8 +10,7 @@ pub sums-requires : goal.sums-requires
 sums-requires c =
     let pre' = c.requires in
     let count-lines' = c.count_lines in
-    let args' = c.args in
-    ((pre'.sited.small, count-lines'.ensures.fits, pre'.n_in_bounds.1), λ j h. omega (arith, pre'.sited.small, counts_small args'.n args'.starts.now args'.rows.now count-lines'.ensures j h))
+    let args' = c.args in record { m_bound = (pre'.sited.small, count-lines'.ensures.fits, pre'.n_in_bounds.1); by_index = λ j h. omega (arith, pre'.sited.small, counts_small args'.n args'.starts.now args'.rows.now count-lines'.ensures j h) }
 
 pub returns : goal.returns
 returns c =
@@ -19,4 +18,4 @@ returns c =
     let count-lines' = c.count_lines in
     let sums' = c.sums in
     let copy-part' = c.copy_part in
-    let h = starts_hold args'.n args'.starts.now args'.rows.now _ _ _ count-lines'.ensures sums'.ensures in (h, holds_copied _ (holds_less args'.n (omega arith) h) copy-part'.ensures)
+    let h = starts_hold args'.n args'.starts.now args'.rows.now _ _ _ count-lines'.ensures sums'.ensures in record { holds = h; holds_2 = holds_copied _ (holds_less args'.n (omega arith) h) copy-part'.ensures }

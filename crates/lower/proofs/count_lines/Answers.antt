@@ -19,8 +19,7 @@ pub count_line-requires : goal.count_line-requires
 count_line-requires c =
     let loop-test' = c.loop-r-test in
     let pre' = c.requires in
-    let loop' = c.loop-r in
-    ((loop-test'.true, pre'.sited), loop'.invariant.0)
+    let loop' = c.loop-r in record { r_lt_n = (loop-test'.true, pre'.sited); counted = loop'.invariant.0 }
 
 pub overflow_add-r : goal.overflow_add-r
 overflow_add-r c =

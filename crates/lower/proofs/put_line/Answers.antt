@@ -145,5 +145,4 @@ pub returns : goal.returns
 returns c =
     let pre' = c.requires in
     let loop' = c.loop-p in
-    let loop-test' = c.loop-p-test in
-    (putting_over _ _ _ _ _ pre'.r_lt_n.2 _ pre'.r_lt_n.0 _ pre'.r_lt_n.1 loop'.invariant loop-test'.false, (loop'.invariant.beyond_rows, loop'.invariant.beyond_values))
+    let loop-test' = c.loop-p-test in record { put_2 = putting_over _ _ _ _ _ pre'.r_lt_n.2 _ pre'.r_lt_n.0 _ pre'.r_lt_n.1 loop'.invariant loop-test'.false; beyond = loop'.invariant.beyond_rows; beyond_2 = loop'.invariant.beyond_values }

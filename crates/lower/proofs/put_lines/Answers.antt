@@ -14,8 +14,7 @@ pub put_line-requires : goal.put_line-requires
 put_line-requires c =
     let loop-test' = c.loop-r-test in
     let pre' = c.requires in
-    let loop' = c.loop-r in
-    ((loop-test'.true, pre'.values_len.0, pre'.values_len.1), loop'.invariant.0)
+    let loop' = c.loop-r in record { r_lt_n = (loop-test'.true, pre'.values_len.0, pre'.values_len.1); put = loop'.invariant.0 }
 
 pub overflow_add-r : goal.overflow_add-r
 overflow_add-r c =

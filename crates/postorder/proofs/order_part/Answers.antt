@@ -20,7 +20,7 @@ pub slice_bounds-order-end-9 : goal.slice_bounds-order-end-9
 slice_bounds-order-end-9 c = sym (length-take-le _ _ c.requires.n_in_bounds.4)
 
 pub order-requires : goal.order-requires
-order-requires c = let q = c.requires in (q.tree, ((length-take-le _ _ q.n_in_bounds.1 ∙ add-one _, length-take-le _ _ q.n_in_bounds.2 ∙ add-one _), (length-take-le _ _ q.n_in_bounds.3, length-take-le _ _ q.n_in_bounds.4)))
+order-requires c = let q = c.requires in record { tree = q.tree; size_len = (length-take-le _ _ q.n_in_bounds.1 ∙ add-one _, length-take-le _ _ q.n_in_bounds.2 ∙ add-one _); place_len = (length-take-le _ _ q.n_in_bounds.3, length-take-le _ _ q.n_in_bounds.4) }
 
 pub returns : goal.returns
-returns c = let e = c.order.ensures in (rw e.perm_after, (rw e.place_after, (rw e.size_after.0, rw e.size_after.1)))
+returns c = let e = c.order.ensures in record { perm_after = rw e.perm_after; place_after = rw e.place_after; size_after = (rw e.size_after.0, rw e.size_after.1) }

@@ -6,29 +6,28 @@ use mathlib.Core.Path.{ap, ◌∙◌}
 use native.Mathlib.Omega.{arith}
 use Rattle.laws.specs.Pass as Post
 use Rattle.postorder.proofs.sizes.Goals as goal
-use Rattle.postorder.proofs.sizes.Goals.{In-loop-j}
-
--- the parent is a slot
-p-to : (c : In-loop-j) → get_or c.args.parents.now c.loop-j.j 0 ≤ c.args.n
-p-to c = c.requires.tree.to _ c.loop-j-test.true
 
 pub loop-j-init : goal.loop-j-init
 loop-j-init c = let f = c.fill.ensures in (omega arith, ap length f ∙ length-replicate _ _ ∙ c.requires.size_len, f ∙ size_start c.args.parents.now c.requires.size_len)
 
 pub offset_bounds-size-p : goal.offset_bounds-size-p
-offset_bounds-size-p c = omega (arith, p-to c.before)
+offset_bounds-size-p c =
+    let p-to : get_or c.args.parents.now c.loop-j.j 0 ≤ c.args.n = c.requires.tree.to _ c.loop-j-test.true in omega (arith, p-to)
 
 pub bounds-size-p : goal.bounds-size-p
-bounds-size-p c = omega (arith, p-to c.before.before)
+bounds-size-p c =
+    let p-to : get_or c.args.parents.now c.loop-j.j 0 ≤ c.args.n = c.requires.tree.to _ c.loop-j-test.true in omega (arith, p-to)
 
 pub overflow_add-size : goal.overflow_add-size
 overflow_add-size c = omega (arith, size_fits _ _ c.requires.tree _ _ c.loop-j.invariant.2 c.loop-j-test.true)
 
 pub offset_bounds-size-p-in-loop-j : goal.offset_bounds-size-p-in-loop-j
-offset_bounds-size-p-in-loop-j c = omega (arith, p-to c.before.before.before)
+offset_bounds-size-p-in-loop-j c =
+    let p-to : get_or c.args.parents.now c.loop-j.j 0 ≤ c.args.n = c.requires.tree.to _ c.loop-j-test.true in omega (arith, p-to)
 
 pub bounds-size-p-in-loop-j : goal.bounds-size-p-in-loop-j
-bounds-size-p-in-loop-j c = omega (arith, p-to c.before.before.before)
+bounds-size-p-in-loop-j c =
+    let p-to : get_or c.args.parents.now c.loop-j.j 0 ≤ c.args.n = c.requires.tree.to _ c.loop-j-test.true in omega (arith, p-to)
 
 pub loop-j-preserved : goal.loop-j-preserved
 loop-j-preserved c = (omega arith, simp length-set (omega arith), size_step _ _ c.requires.tree _ _ c.loop-j.invariant.2 c.loop-j-test.true)

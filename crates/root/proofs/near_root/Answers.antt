@@ -42,7 +42,7 @@ loop-i-preserved c =
     let v = c.args.v in
     let l = c.loop-i in
     let h = c.loop-i-test.true in
-    elim c.if-s-z.branch [ then-s-z w ↦ subst₂ (λ (q z : ℕ). Digits v (l.i + 1) (l.b / 2) q z) (sym w.q-is) (sym w.z-is) (digits-on v l.i l.b l.q l.z l.invariant h w.if-s-z.true) | else-s-z w ↦ subst₂ (λ (q z : ℕ). Digits v (l.i + 1) (l.b / 2) q z) (sym w.1) (sym w.2) (digits-off v l.i l.b l.q l.z l.invariant h w.if-s-z.false) ]
+    elim c.if-s-z.branch [ then-s-z w ↦ subst₂ (λ (q z : ℕ). Digits v (l.i + 1) (l.b / 2) q z) (sym w.q-is) (sym w.z-is) (digits-on v l.i l.b l.q l.z l.invariant h w.if-s-z.true) | else-s-z w ↦ subst₂ (λ (q z : ℕ). Digits v (l.i + 1) (l.b / 2) q z) (sym w.q-is) (sym w.z-is) (digits-off v l.i l.b l.q l.z l.invariant h w.if-s-z.false) ]
 
 pub returns-then-q-z : goal.returns-then-q-z
 returns-then-q-z c =

@@ -3,4 +3,4 @@ use mathlib.Core.Path.{refl}
 use Rattle.structure.proofs.append.Goals as goal
 
 pub returns : goal.returns
-returns c = (refl, (refl, refl))
+returns c = record { marks_after = refl; next_after = refl; to_after = refl }

@@ -22,4 +22,4 @@ pub loop-marks-preserved : goal.loop-marks-preserved
 loop-marks-preserved c = let q = c.requires in let w = c.loop-marks.invariant in let a = c.append.ensures in climbing_step _ _ (pattern_upper _ _ _ q.columns.0) _ q.r_lt_n.0 w c.loop-marks-test.true a.marks_after a.next_after a.to_after (q.columns.1.at _ w.in_nodes)
 
 pub returns : goal.returns
-returns c = let q = c.requires in climbing_over _ _ (pattern_upper _ _ _ q.columns.0) _ q.r_lt_n.0 c.loop-marks.invariant c.loop-marks-test.false
+returns c = let q = c.requires in let rest' = climbing_over _ _ (pattern_upper _ _ _ q.columns.0) _ q.r_lt_n.0 c.loop-marks.invariant c.loop-marks-test.false in record { line_2 = rest'.0; kept = rest'.1.0; marked = rest'.1.1.0; beyond = rest'.1.1.1 }

@@ -11,7 +11,7 @@ pub bounds-own-r : goal.bounds-own-r
 bounds-own-r c = omega (arith, c.requires.r_lt_n.1.own_is.fits)
 
 pub append-requires : goal.append-requires
-append-requires c = let q = c.requires in let o = opened _ _ _ _ _ _ _ q.r_lt_n.1 _ q.r_lt_n.0 q.lines in ((o.in_m, o.in_n), o.in_l)
+append-requires c = let q = c.requires in let o = opened _ _ _ _ _ _ _ q.r_lt_n.1 _ q.r_lt_n.0 q.lines in record { k_in_bounds = (o.in_m, o.in_n); k_in_bounds_2 = o.in_l }
 
 pub offset_bounds-permutation-r : goal.offset_bounds-permutation-r
 offset_bounds-permutation-r c = omega (arith, c.requires.r_lt_n.1.perm_is.fits)
@@ -50,7 +50,7 @@ pub bounds-own-c : goal.bounds-own-c
 bounds-own-c c = let q = c.requires in omega (arith, entry_reads _ _ _ _ _ _ _ q.r_lt_n.1 _ q.r_lt_n.0 _ c.loop-p.invariant.from c.loop-p-test.true)
 
 pub climb-requires : goal.climb-requires
-climb-requires c = let q = c.requires in let e = entry_climbs _ _ _ _ _ _ _ q.r_lt_n.1 _ q.r_lt_n.0 _ c.loop-p.invariant.from c.loop-p-test.true in ((q.r_lt_n.1.formed, q.r_lt_n.1.up_is), ((q.r_lt_n.0, e.0, e.1), c.loop-p.invariant.line))
+climb-requires c = let q = c.requires in let e = entry_climbs _ _ _ _ _ _ _ q.r_lt_n.1 _ q.r_lt_n.0 _ c.loop-p.invariant.from c.loop-p-test.true in record { columns = (q.r_lt_n.1.formed, q.r_lt_n.1.up_is); r_lt_n = (q.r_lt_n.0, e.0, e.1); line = c.loop-p.invariant.line }
 
 pub overflow_add-p : goal.overflow_add-p
 overflow_add-p c = omega (arith, c.well_formed, c.loop-p.invariant, c.loop-p-test.true)
@@ -59,4 +59,4 @@ pub loop-p-preserved : goal.loop-p-preserved
 loop-p-preserved c = let q = c.requires in let a = c.climb.ensures in lining_more _ _ _ _ _ _ _ q.r_lt_n.1 _ q.r_lt_n.0 c.loop-p.invariant c.loop-p-test.true a.line_2 a.kept a.marked a.beyond (omega arith) (omega arith)
 
 pub returns : goal.returns
-returns c = let q = c.requires in let a = c.append.ensures in (lining_over _ _ _ _ _ _ _ q.r_lt_n.1 _ q.r_lt_n.0 c.loop-p.invariant c.loop-p-test.false, beyond_by _ (opened_beyond _ _ _ _ _ _ _ q.r_lt_n.1 _ q.r_lt_n.0 q.lines a.marks_after a.next_after a.to_after) c.loop-p.invariant.beyond)
+returns c = let q = c.requires in let a = c.append.ensures in record { lines_2 = lining_over _ _ _ _ _ _ _ q.r_lt_n.1 _ q.r_lt_n.0 c.loop-p.invariant c.loop-p-test.false; beyond = beyond_by _ (opened_beyond _ _ _ _ _ _ _ q.r_lt_n.1 _ q.r_lt_n.0 q.lines a.marks_after a.next_after a.to_after) c.loop-p.invariant.beyond }

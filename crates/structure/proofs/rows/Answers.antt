@@ -14,7 +14,7 @@ pub loop-r-init : goal.loop-r-init
 loop-r-init c = let q = c.requires in (all_begin _ _ _ _ _ _ _ _ _ _ q.ns_value.0 q.ns_value.1 q.ns_in_bounds.0 q.ns_in_bounds.1 q.ns_in_bounds.2 c.fill_part.ensures c.copy_part.ensures, refl, refl)
 
 pub line-requires : goal.line-requires
-line-requires c = ((c.loop-r-test.true, c.requires.given), c.loop-r.invariant.0.lines)
+line-requires c = record { r_lt_n = (c.loop-r-test.true, c.requires.given); lines = c.loop-r.invariant.0.lines }
 
 pub overflow_add-r : goal.overflow_add-r
 overflow_add-r c = omega (arith, c.well_formed, c.loop-r-test.true)
@@ -23,4 +23,4 @@ pub loop-r-preserved : goal.loop-r-preserved
 loop-r-preserved c = (all_more c.loop-r.invariant.0 c.loop-r-test.true c.line.ensures.lines_2 c.line.ensures.beyond, omega arith, omega arith)
 
 pub returns : goal.returns
-returns c = all_over c.loop-r.invariant.0 c.loop-r-test.false c.requires.ns_value.0
+returns c = let rest' = all_over c.loop-r.invariant.0 c.loop-r-test.false c.requires.ns_value.0 in record { to_after = rest'.0; holds = rest'.1 }

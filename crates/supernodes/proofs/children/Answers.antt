@@ -6,32 +6,33 @@ use lib.ListN.{length, get_or, length-set, length-replicate}
 use mathlib.Core.Path.{ap, ◌∙◌}
 use native.Mathlib.Omega.{arith}
 use Rattle.supernodes.proofs.children.Goals as goal
-use Rattle.supernodes.proofs.children.Goals.{In-loop-j}
-
--- the parent is a slot
-p-to : (c : In-loop-j) → get_or c.args.parents.now c.loop-j.j 0 ≤ c.args.n
-p-to c = c.requires.by_index _ c.loop-j-test.true
 
 pub loop-j-init : goal.loop-j-init
 loop-j-init c = let f = c.fill.ensures in let q = c.requires.parents_len.1 in (omega arith, ap length f ∙ length-replicate _ _ ∙ q, f ∙ kids_begin c.args.parents.now _ _ q)
 
 pub offset_bounds-kids-p : goal.offset_bounds-kids-p
-offset_bounds-kids-p c = omega (arith, p-to c.before)
+offset_bounds-kids-p c =
+    let p-to : get_or c.args.parents.now c.loop-j.j 0 ≤ c.args.n = c.requires.by_index _ c.loop-j-test.true in omega (arith, p-to)
 
 pub bounds-kids-p : goal.bounds-kids-p
-bounds-kids-p c = omega (arith, p-to c.before.before)
+bounds-kids-p c =
+    let p-to : get_or c.args.parents.now c.loop-j.j 0 ≤ c.args.n = c.requires.by_index _ c.loop-j-test.true in omega (arith, p-to)
 
 pub overflow_add-kids : goal.overflow_add-kids
-overflow_add-kids c = omega (arith, kids_fits c.args.parents.now _ _ _ c.loop-j.invariant.2 (p-to c.before.before))
+overflow_add-kids c =
+    let p-to : get_or c.args.parents.now c.loop-j.j 0 ≤ c.args.n = c.requires.by_index _ c.loop-j-test.true in omega (arith, kids_fits c.args.parents.now _ _ _ c.loop-j.invariant.2 (p-to))
 
 pub offset_bounds-kids-p-in-loop-j : goal.offset_bounds-kids-p-in-loop-j
-offset_bounds-kids-p-in-loop-j c = omega (arith, p-to c.before.before)
+offset_bounds-kids-p-in-loop-j c =
+    let p-to : get_or c.args.parents.now c.loop-j.j 0 ≤ c.args.n = c.requires.by_index _ c.loop-j-test.true in omega (arith, p-to)
 
 pub bounds-kids-p-in-loop-j : goal.bounds-kids-p-in-loop-j
-bounds-kids-p-in-loop-j c = omega (arith, p-to c.before.before)
+bounds-kids-p-in-loop-j c =
+    let p-to : get_or c.args.parents.now c.loop-j.j 0 ≤ c.args.n = c.requires.by_index _ c.loop-j-test.true in omega (arith, p-to)
 
 pub loop-j-preserved : goal.loop-j-preserved
-loop-j-preserved c = (omega arith, simp length-set (omega arith), kids_step c.args.parents.now _ _ _ c.loop-j.invariant.2 (p-to c.before.before))
+loop-j-preserved c =
+    let p-to : get_or c.args.parents.now c.loop-j.j 0 ≤ c.args.n = c.requires.by_index _ c.loop-j-test.true in (omega arith, simp length-set (omega arith), kids_step c.args.parents.now _ _ _ c.loop-j.invariant.2 (p-to))
 
 pub returns : goal.returns
 returns c = let x = c.loop-j.invariant in x.2 ∙ ap (λ j. list (kids_of c.args.parents.now j) (suc c.args.n)) (omega arith)

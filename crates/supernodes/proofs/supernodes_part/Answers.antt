@@ -14,7 +14,7 @@ pub slice_bounds-supernodes-end-4 : goal.slice_bounds-supernodes-end-4
 slice_bounds-supernodes-end-4 c = sym (length-take-le _ _ c.requires.n_in_bounds.2)
 
 pub supernodes-requires : goal.supernodes-requires
-supernodes-requires c = let q = c.requires in ((length-take-le _ _ q.n_in_bounds.0, length-take-le _ _ q.n_in_bounds.1, length-take-le _ _ q.n_in_bounds.2 ∙ add-one _), (q.by_index, q.n_in_bounds_2))
+supernodes-requires c = let q = c.requires in record { parents_len = (length-take-le _ _ q.n_in_bounds.0, length-take-le _ _ q.n_in_bounds.1, length-take-le _ _ q.n_in_bounds.2 ∙ add-one _); by_index = q.by_index; n_in_bounds = q.n_in_bounds_2 }
 
 pub returns : goal.returns
-returns c = let e = c.supernodes.ensures in (e.value, (e.first_after, (e.owner_after, rw e.kids_after)))
+returns c = let e = c.supernodes.ensures in record { value = e.value; first_after = e.first_after; owner_after = e.owner_after; kids_after = rw e.kids_after }

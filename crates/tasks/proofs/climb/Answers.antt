@@ -19,7 +19,7 @@ overflow_add-e c =
     let args' = c.args in
     let loop' = c.loop-e in
     let if1' = c.loop-e-test in
-    let fits2' = c.fits2 in
+    let fits2' = c.fits in
     omega (arith, good', fits_in_lem args'.ns args'.begins.now args'.loads.now args'.most args'.s loop'.r if1'.true fits2'.ensures)
 
 pub offset_bounds-parents-r : goal.offset_bounds-parents-r
@@ -29,7 +29,7 @@ offset_bounds-parents-r c =
     let args' = c.args in
     let loop' = c.loop-e in
     let if1' = c.loop-e-test in
-    let fits2' = c.fits2 in
+    let fits2' = c.fits in
     omega (arith, good', pre'.s_lt_ns.1.len, fits_in_lem args'.ns args'.begins.now args'.loads.now args'.most args'.s loop'.r if1'.true fits2'.ensures)
 
 pub bounds-parents-r : goal.bounds-parents-r
@@ -39,7 +39,7 @@ bounds-parents-r c =
     let args' = c.args in
     let loop' = c.loop-e in
     let if1' = c.loop-e-test in
-    let fits2' = c.fits2 in
+    let fits2' = c.fits in
     omega (arith, good', pre'.s_lt_ns.1.len, fits_in_lem args'.ns args'.begins.now args'.loads.now args'.most args'.s loop'.r if1'.true fits2'.ensures)
 
 pub loop-e-smaller : goal.loop-e-smaller
@@ -47,7 +47,7 @@ loop-e-smaller c =
     let args' = c.args in
     let loop' = c.loop-e in
     let if1' = c.loop-e-test in
-    let fits2' = c.fits2 in
+    let fits2' = c.fits in
     let pre' = c.requires in
     let h = fits_in_lem args'.ns args'.begins.now args'.loads.now args'.most args'.s loop'.r if1'.true fits2'.ensures in omega (arith, h, pre'.s_lt_ns.1.rise _ h)
 
@@ -56,12 +56,11 @@ loop-e-preserved c =
     let loop' = c.loop-e in
     let pre' = c.requires in
     let if1' = c.loop-e-test in
-    let fits2' = c.fits2 in
+    let fits2' = c.fits in
     climbing_more loop'.invariant pre'.s_lt_ns.1 if1'.true fits2'.ensures
 
 pub returns : goal.returns
 returns c =
     let loop' = c.loop-e in
     let if1' = c.loop-e-test in
-    let fits2' = c.fits2 in
-    ((loop'.invariant.low, loop'.invariant.to), climbing_over loop'.invariant if1'.false fits2'.ensures)
+    let fits2' = c.fits in record { lower_bound = (loop'.invariant.low, loop'.invariant.to); value = climbing_over loop'.invariant if1'.false fits2'.ensures }

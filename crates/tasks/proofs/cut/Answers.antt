@@ -10,8 +10,7 @@ loop-s-init c = cutting_begin _ _ _ _ _ _ _
 pub climb-e-requires : goal.climb-e-requires
 climb-e-requires c =
     let loop-test' = c.loop-s-test in
-    let pre' = c.requires in
-    ((loop-test'.true, pre'.above), pre'.ns_in_bounds)
+    let pre' = c.requires in record { s_lt_ns = (loop-test'.true, pre'.above); ns_in_bounds = pre'.ns_in_bounds }
 
 pub push_task-t-requires : goal.push_task-t-requires
 push_task-t-requires c =

@@ -14,8 +14,7 @@ slice_bounds-cut-end-3 c =
 
 pub cut-requires : goal.cut-requires
 cut-requires c =
-    let pre' = c.requires in
-    (rw (tail_lent _ _) pre'.ns_bound.2, ((simp (length-take, length-drop) (omega (arith, pre'.ns_bound)), simp length-take (omega (arith, pre'.ns_bound))), pre'.ns_in_bounds))
+    let pre' = c.requires in record { above = rw (tail_lent _ _) pre'.ns_bound.2; ns_in_bounds = (simp (length-take, length-drop) (omega (arith, pre'.ns_bound)), simp length-take (omega (arith, pre'.ns_bound))); ns_in_bounds_2 = pre'.ns_in_bounds }
 
 pub returns : goal.returns
 returns c =

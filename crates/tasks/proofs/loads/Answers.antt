@@ -8,8 +8,7 @@ pub raise_loads-requires : goal.raise_loads-requires
 raise_loads-requires c =
     let pre' = c.requires in
     let args' = c.args in
-    let weights' = c.weights in
-    (pre'.sized.1, (omega (arith, pre'.ns_in_bounds), omega (arith, weights_little args'.ns args'.firsts.now args'.starts.now pre'.sized.0 _ _ weights'.ensures)))
+    let weights' = c.weights in record { above = pre'.sized.1; ns_in_bounds = (omega (arith, pre'.ns_in_bounds), omega (arith, weights_little args'.ns args'.firsts.now args'.starts.now pre'.sized.0 _ _ weights'.ensures)) }
 
 pub returns : goal.returns
 returns c =

@@ -2,4 +2,4 @@
 use Rattle.tasks.proofs.push_task.Goals as goal
 
 pub returns-then-yes : goal.returns-then-yes
-returns-then-yes c = (rw c.if-yes.true, rw c.if-yes.true)
+returns-then-yes c = record { value = rw c.if-yes.true; to_after = rw c.if-yes.true }

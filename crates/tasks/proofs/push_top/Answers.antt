@@ -2,4 +2,4 @@
 use Rattle.tasks.proofs.push_top.Goals as goal
 
 pub returns : goal.returns
-returns c = (rw c.if-no.false, rw c.if-no.false)
+returns c = record { value = rw c.if-no.false; to_after = rw c.if-no.false }

@@ -6,7 +6,7 @@ use native.Mathlib.Numerals.{add-one}
 use Rattle.tree.proofs.visit.Goals as goal
 
 pub returns-then-parents-i : goal.returns-then-parents-i
-returns-then-parents-i c = (visit_first _ _ _ _ _ _ (search rules) c.if-parents-i.true, (rw add-one, refl))
+returns-then-parents-i c = record { parents_after = visit_first _ _ _ _ _ _ (search rules) c.if-parents-i.true; counts_after = rw add-one; marks_after = refl }
 
 pub returns-else-parents-i : goal.returns-else-parents-i
-returns-else-parents-i c = (visit_again _ _ _ _ _ _ (search rules) c.if-parents-i.false, (rw add-one, refl))
+returns-else-parents-i c = record { parents_after = visit_again _ _ _ _ _ _ (search rules) c.if-parents-i.false; counts_after = rw add-one; marks_after = refl }

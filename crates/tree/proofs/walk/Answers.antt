@@ -18,4 +18,4 @@ pub loop-marks-preserved : goal.loop-marks-preserved
 loop-marks-preserved c = let v = c.before.before.before.before.before.before.before in let t = v.before.before.before.before in stepped _ _ _ _ _ t.requires.k_lt_n _ _ _ _ _ t.loop-marks.invariant t.loop-marks-test.true _ _ _ v.visit.ensures.parents_after v.visit.ensures.counts_after v.visit.ensures.marks_after
 
 pub returns : goal.returns
-returns c = over _ _ _ _ _ c.requires.k_lt_n _ _ _ _ _ c.loop-marks.invariant c.loop-marks-test.false
+returns c = let rest' = over _ _ _ _ _ c.requires.k_lt_n _ _ _ _ _ c.loop-marks.invariant c.loop-marks-test.false in record { between = rest'.0; kept = rest'.1.0; t = rest'.1.1 }
