@@ -260,9 +260,9 @@ class Fn:
                     elif x == "before":
                         state = ("at",)
                         out = head
-                    elif x in ("new", "last") and callee.get(state[1]):
-                        out += ".new"
-                        state = ("clauses", callee[state[1]])
+                    elif x in ("new", "last", "auto") and callee.get(state[1]):
+                        out += ".auto" if x == "auto" else ".new"
+                        state = ("clauses", callee[state[1]] + ["the-end"])
                     else:
                         out += "." + norm(x)
                         state = ("done",)

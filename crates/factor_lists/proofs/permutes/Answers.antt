@@ -30,11 +30,11 @@ count_all-requires c =
     let fill-part' = c.fill_part in
     let args' = c.args in
     let all-below' = c.all_below in
-    let if2' = c.if-not-all_below in record { n_in_bounds = (pre', omega (arith, fill-part'.auto.1.1.0)); by_index = zeros_first _ _ _ fill-part'.ensures; by_index_2 = low_of_lem _ _ (pre') (yes all-below'.ensures if2'.false) }
+    let if2' = c.if-not-all_below in record { n_in_bounds = (pre', omega (arith, fill-part'.auto.to)); by_index = zeros_first _ _ _ fill-part'.ensures; by_index_2 = low_of_lem _ _ (pre') (yes all-below'.ensures if2'.false) }
 
 pub returns : goal.returns
 returns c =
     let all-one' = c.all_one in
     let args' = c.args in
     let count-all' = c.count_all in
-    all-one'.ensures ∙ counted args'.n args'.p.now count-all'.new.words.0 count-all'.ensures
+    all-one'.ensures ∙ counted args'.n args'.p.now count-all'.new.words count-all'.ensures

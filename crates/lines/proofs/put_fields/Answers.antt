@@ -8,7 +8,7 @@ use Rattle.lines.proofs.Written.{hex_length, long, placed_more, placed_end}
 use Rattle.lines.proofs.put_fields.Goals as goal
 
 pub shape_of-out : goal.shape_of-out
-shape_of-out c = simp length-set (c.put_hex-4.auto.0 ∙ c.put_hex-3.auto.0 ∙ c.put_hex-2.auto.0 ∙ c.put_hex.auto.0)
+shape_of-out c = simp length-set (c.put_hex-4.auto.out ∙ c.put_hex-3.auto.out ∙ c.put_hex-2.auto.out ∙ c.put_hex.auto.out)
 
 pub returns : goal.returns
 returns c =
@@ -23,5 +23,5 @@ returns c =
     let n3 = long (hex 2 0x8f ++ hex 2 a.number) 4 8 a.first n2 in
     let h4 = placed_more d _ _ (hex 2 0x8f ++ hex 2 a.number ++ hex 8 a.first) (hex 8 a.second) 0 12 h3 (omega arith) (omega (arith, b.requires)) c.put_hex-4.ensures in
     let n4 = long (hex 2 0x8f ++ hex 2 a.number ++ hex 8 a.first) 12 8 a.second n3 in
-    let l = c.put_hex-4.auto.0 ∙ c.put_hex-3.auto.0 ∙ c.put_hex-2.auto.0 ∙ c.put_hex.auto.0 in
+    let l = c.put_hex-4.auto.out ∙ c.put_hex-3.auto.out ∙ c.put_hex-2.auto.out ∙ c.put_hex.auto.out in
     placed_end d _ (hex 2 0x8f ++ hex 2 a.number ++ hex 8 a.first ++ hex 8 a.second) 0 20 10 h4 (omega arith) (omega (arith, b.requires)) l

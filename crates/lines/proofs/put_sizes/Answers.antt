@@ -8,7 +8,7 @@ use Rattle.lines.proofs.Written.{hex_length, long, placed_more, placed_end}
 use Rattle.lines.proofs.put_sizes.Goals as goal
 
 pub shape_of-out : goal.shape_of-out
-shape_of-out c = simp length-set (c.put_hex-3.auto.0 ∙ c.put_hex-2.auto.0 ∙ c.put_hex.auto.0)
+shape_of-out c = simp length-set (c.put_hex-3.auto.out ∙ c.put_hex-2.auto.out ∙ c.put_hex.auto.out)
 
 pub returns : goal.returns
 returns c =
@@ -21,5 +21,5 @@ returns c =
     let n2 = long (hex 2 0x81) 2 8 a.entries n1 in
     let h3 = placed_more d _ _ (hex 2 0x81 ++ hex 8 a.entries) (hex 4 a.supernodes) (0) (10) h2 (omega arith) (omega (arith, b.requires)) c.put_hex-3.ensures in
     let n3 = long (hex 2 0x81 ++ hex 8 a.entries) 10 4 a.supernodes n2 in
-    let l = c.put_hex-3.auto.0 ∙ c.put_hex-2.auto.0 ∙ c.put_hex.auto.0 in
+    let l = c.put_hex-3.auto.out ∙ c.put_hex-2.auto.out ∙ c.put_hex.auto.out in
     placed_end d _ (hex 2 0x81 ++ hex 8 a.entries ++ hex 4 a.supernodes) (0) (14) 10 h3 (omega arith) (omega (arith, b.requires)) l

@@ -10,7 +10,7 @@ use Rattle.lines.proofs.Written.{hex_length, long, placed_more, placed_end, plac
 use Rattle.lines.proofs.put_unknown.Goals as goal
 
 pub shape_of-out : goal.shape_of-out
-shape_of-out c = simp length-set (c.put_hex-3.auto.0 ∙ c.put_hex-2.auto.0 ∙ c.put_hex.auto.0)
+shape_of-out c = simp length-set (c.put_hex-3.auto.out ∙ c.put_hex-2.auto.out ∙ c.put_hex.auto.out)
 
 pub returns : goal.returns
 returns c =
@@ -23,5 +23,5 @@ returns c =
     let n2 = long (hex 2 0x82) 2 4 a.position.0 n1 in
     let h3 = placed_more d _ _ (hex 2 0x82 ++ hex 4 a.position.0) (hex 16 (to_bits binary64 a.x)) a.at (a.at + 6) h2 (omega arith) (omega (arith, b.requires)) (placed_as _ _ _ _ _ _ c.put_hex-3.ensures c.bits_of.ensures) in
     let n3 = long (hex 2 0x82 ++ hex 4 a.position.0) 6 16 (to_bits binary64 a.x) n2 in
-    let l = c.put_hex-3.auto.0 ∙ c.put_hex-2.auto.0 ∙ c.put_hex.auto.0 in
+    let l = c.put_hex-3.auto.out ∙ c.put_hex-2.auto.out ∙ c.put_hex.auto.out in
     placed_end d _ (hex 2 0x82 ++ hex 4 a.position.0 ++ hex 16 (to_bits binary64 a.x)) a.at (a.at + 22) 10 h3 (omega arith) (omega (arith, b.requires)) l

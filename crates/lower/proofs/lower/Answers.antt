@@ -9,7 +9,7 @@ pub put_lines-requires : goal.put_lines-requires
 put_lines-requires c =
     let pre' = c.requires in
     let begin-lines' = c.begin_lines in
-    let args' = c.args in record { values_len = pre'.input_values_len; holds = begin-lines'.ensures.holds_2; rows_in_bounds = (rw (tail_length (args'.n + 1) begin-lines'.new.words.0 (omega (arith, pre'.n_in_bounds, begin-lines'.auto))) (omega (arith, pre'.n_in_bounds, begin-lines'.auto)), pre'.n_in_bounds.2) }
+    let args' = c.args in record { values_len = pre'.input_values_len; holds = begin-lines'.ensures.holds_2; rows_in_bounds = (rw (tail_length (args'.n + 1) begin-lines'.new.words (omega (arith, pre'.n_in_bounds, begin-lines'.auto))) (omega (arith, pre'.n_in_bounds, begin-lines'.auto)), pre'.n_in_bounds.2) }
 
 pub returns : goal.returns
 returns c =

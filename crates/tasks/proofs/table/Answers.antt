@@ -12,7 +12,7 @@ pub begins-requires : goal.begins-requires
 begins-requires c =
     let pre' = c.requires in
     let args' = c.args in
-    let loads' = c.loads in record { above = pre'.sized.1; ns_in_bounds = rw (tail_length (args'.ns + 1) loads'.new.to.0 (omega (arith, pre'.ns_bound, loads'.auto))) (omega (arith, pre'.ns_bound, loads'.auto)) }
+    let loads' = c.loads in record { above = pre'.sized.1; ns_in_bounds = rw (tail_length (args'.ns + 1) loads'.new.to (omega (arith, pre'.ns_bound, loads'.auto))) (omega (arith, pre'.ns_bound, loads'.auto)) }
 
 pub returns : goal.returns
 returns c =
@@ -21,6 +21,6 @@ returns c =
     let pre' = c.requires in
     let begins' = c.begins in
     let copy-part' = c.copy_part in
-    let w = loads'.new.to.0 in
+    let w = loads'.new.to in
     let long = (let z : 3 * args'.ns + 3 ≤ length w = omega (arith, pre'.ns_bound, loads'.auto) in z) in
-    let ly = (let z : length begins'.new.to.0 ≡ length w - (args'.ns + 1) = omega (arith, begins'.auto, tail_length (args'.ns + 1) w (omega (arith, long))) in z) in record { spread = (λ S g. spread_back args'.ns w _ _ long ly S (loads'.ensures S g) (begins'.ensures S g.tree) (holds_copied _ g.tree.are copy-part'.ensures)); above = above_back args'.ns w begins'.new.to.0 _ long ly (above_part _ pre'.sized.1 copy-part'.ensures) }
+    let ly = (let z : length begins'.new.to ≡ length w - (args'.ns + 1) = omega (arith, begins'.auto, tail_length (args'.ns + 1) w (omega (arith, long))) in z) in record { spread = (λ S g. spread_back args'.ns w _ _ long ly S (loads'.ensures S g) (begins'.ensures S g.tree) (holds_copied _ g.tree.are copy-part'.ensures)); above = above_back args'.ns w begins'.new.to _ long ly (above_part _ pre'.sized.1 copy-part'.ensures) }
