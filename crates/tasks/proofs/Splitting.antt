@@ -61,7 +61,7 @@ module _ (ns : ℕ) (w ys zs : List ℕ) (long : 3 * ns + 3 ≤ length w) (ly : 
   spread S a b c = record {
     loaded = record { fits = omega (arith, two_length); at = λ j h. first j (omega arith) ∙ a.loaded.at j h };
     total = first ns (omega arith) ∙ a.total;
-    starting = record { fits = simp length-drop (omega (arith, two_length, c.ranges)); at = λ j h. second j h ∙ b.at j h };
+    starting = record { fits = simp length-drop (omega (arith, two_length, c.fits)); at = λ j h. second j h ∙ b.at j h };
     are = rw third c;
   }
 

@@ -12,12 +12,12 @@ pub words-r-requires : goal.words-r-requires
 words-r-requires c = c.requires
 
 pub returns-in_default : goal.returns-in_default
-returns-in_default c = let a = c.args in let e = c.words-r.ensures in e ∙ short_less (areas.needs a.n a.a a.room) (floats_need a.n a.a a.room ∷ []) (λ q. accepted_first (rw (e ∙ q) at c.in_default.keys2))
+returns-in_default c = let a = c.args in let e = c.words-r.ensures in e ∙ short_less (areas.needs a.n a.a a.room) (floats_need a.n a.a a.room ∷ []) (λ q. absurd (c.in_default.not-Accepted (e ∙ q)))
 
 pub returns-then-room-need : goal.returns-then-room-need
 unfolding short answered
-returns-then-room-need c = let a = c.args in rw (short_more (areas.needs a.n a.a a.room) (floats_need a.n a.a a.room ∷ []) (sym c.words-r.ensures ∙ c.enum_told-1.given.1), lt-ltb _ _ c.if-room-need.true)
+returns-then-room-need c = let a = c.args in rw (short_more (areas.needs a.n a.a a.room) (floats_need a.n a.a a.room ∷ []) (sym c.words-r.ensures ∙ c.in-Accepted.is), lt-ltb _ _ c.if-room-need.true)
 
 pub returns : goal.returns
 unfolding short answered
-returns c = let a = c.args in rw (short_more (areas.needs a.n a.a a.room) (floats_need a.n a.a a.room ∷ []) (sym c.words-r.ensures ∙ c.enum_told-1.given.1), le-ltb _ _ c.if-room-need.false)
+returns c = let a = c.args in rw (short_more (areas.needs a.n a.a a.room) (floats_need a.n a.a a.room ∷ []) (sym c.words-r.ensures ∙ c.in-Accepted.is), le-ltb _ _ c.if-room-need.false)

@@ -14,6 +14,7 @@ pub begins-b-requires : goal.begins-b-requires
 begins-b-requires c = let q = c.requires in record { j_lt_n = c.loop-j-test.true; parents_len = q.parents_len; kids_value = q.kids_value }
 
 pub overflow_sub-owner : goal.overflow_sub-owner
+unfolding begins_in
 overflow_sub-owner c =
     let next : let a = c.args in
     Listing (begins_in a.parents.now a.counts.now a.n) a.n a.first.now c.push-m.new.s c.push-m.result (c.loop-j.j + 1) = listing_more c.loop-j.invariant.0 c.loop-j-test.true c.begins-b.ensures c.push-m.ensures.s_after c.push-m.ensures.value in
