@@ -1,0 +1,2 @@
+-- What the loop over updates keeps.
+pub mod Laws
