@@ -1,0 +1,90 @@
+use mathlib.Core.Path.{refl, sym, ◌∙◌}
+use Prim.Native.Nat.{◌+◌, ◌-◌}
+use native.Mathlib.Numerals.{add-one}
+use native.Mathlib.Omega.{arith}
+use borrow.Author.Tests.{not-true, not-false}
+use Rattle.statement.specs.Solve.{good_supernode}
+use Rattle.laws.proofs.Every.{tested_start, tested_more, tested_stop, tested_over}
+use Rattle.laws.proofs.Walked.{node}
+use Rattle.checks.proofs.good_supernodes.Goals as goal
+
+pub loop-k-init : goal.loop-k-init
+loop-k-init c = tested_start _ _
+
+pub overflow_sub-w : goal.overflow_sub-w
+overflow_sub-w c =
+    let pre' = c.requires in
+    let loop' = c.loop-k in
+    omega (arith, (node _ (pre') loop'.k (omega arith)).right)
+
+pub offset_bounds-starts-k : goal.offset_bounds-starts-k
+offset_bounds-starts-k c =
+    let pre' = c.requires in
+    omega (arith, pre'.long)
+
+pub bounds-starts-k : goal.bounds-starts-k
+bounds-starts-k c =
+    let pre' = c.requires in
+    omega (arith, pre'.long)
+
+pub offset_bounds-starts-k-in-loop-k : goal.offset_bounds-starts-k-in-loop-k
+offset_bounds-starts-k-in-loop-k c =
+    let pre' = c.requires in
+    omega (arith, pre'.long)
+
+pub bounds-starts-k-in-loop-k : goal.bounds-starts-k-in-loop-k
+bounds-starts-k-in-loop-k c =
+    let pre' = c.requires in
+    omega (arith, pre'.long)
+
+pub offset_bounds-rows-s : goal.offset_bounds-rows-s
+offset_bounds-rows-s c =
+    let pre' = c.requires in
+    let loop' = c.loop-k in
+    omega (arith, (node _ (pre') loop'.k (omega arith)).inside, (node _ (pre') loop'.k (omega arith)).down)
+
+pub slice_bounds-good_supernode-count : goal.slice_bounds-good_supernode-count
+slice_bounds-good_supernode-count c =
+    let pre' = c.requires in
+    let loop' = c.loop-k in
+    omega (arith, (node _ (pre') loop'.k (omega arith)).down)
+
+pub slice_bounds-good_supernode-start : goal.slice_bounds-good_supernode-start
+slice_bounds-good_supernode-start c =
+    let pre' = c.requires in
+    let loop' = c.loop-k in
+    omega (arith, (node _ (pre') loop'.k (omega arith)).down)
+
+pub slice_bounds-good_supernode-end : goal.slice_bounds-good_supernode-end
+slice_bounds-good_supernode-end c =
+    let pre' = c.requires in
+    let loop' = c.loop-k in
+    omega (arith, (node _ (pre') loop'.k (omega arith)).inside)
+
+pub good_supernode-requires : goal.good_supernode-requires
+good_supernode-requires c =
+    let pre' = c.requires in
+    let loop' = c.loop-k in
+    let shared-slice-known5' = c.shared_slice_known-in-loop-k-2-1 in
+    omega (arith, (node _ (pre') loop'.k (omega arith)).right, shared-slice-known5'.given (loop'.k + 1))
+
+pub returns-then-not-good_supernode : goal.returns-then-not-good_supernode
+returns-then-not-good_supernode c =
+    let loop' = c.loop-k in
+    let good-supernode' = c.good_supernode in
+    let pre' = c.requires in
+    let if1' = c.if-not-good_supernode in
+    tested_stop loop'.invariant (omega arith) (sym (good-supernode'.ensures _ loop'.k (node _ (pre') loop'.k (omega arith)).part refl (rw (add-one loop'.k)) refl) ∙ not-true _ if1'.true)
+
+pub loop-k-preserved : goal.loop-k-preserved
+loop-k-preserved c =
+    let loop' = c.loop-k in
+    let good-supernode' = c.good_supernode in
+    let pre' = c.requires in
+    let if1' = c.if-not-good_supernode in
+    tested_more loop'.invariant (omega arith) (sym (good-supernode'.ensures _ loop'.k (node _ (pre') loop'.k (omega arith)).part refl (rw (add-one loop'.k)) refl) ∙ not-false _ if1'.false)
+
+pub returns : goal.returns
+returns c =
+    let loop' = c.loop-k in
+    tested_over loop'.invariant (omega arith)

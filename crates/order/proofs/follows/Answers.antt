@@ -1,0 +1,12 @@
+-- `order::follows` meets its contract. Assumes nothing.
+use mathlib.Core.Path.{sym, ap}
+use Rattle.order.specs.Followed.{followed}
+use Rattle.order.proofs.follows.Goals as goal
+
+pub returns-in-Plain : goal.returns-in-Plain
+unfolding followed
+returns-in-Plain c = sym (ap followed c.enum_told-1.given.1)
+
+pub returns-in-Listed : goal.returns-in-Listed
+unfolding followed
+returns-in-Listed c = sym (ap followed c.enum_told-in-Listed-1.given.1)

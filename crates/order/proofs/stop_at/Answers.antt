@@ -1,0 +1,10 @@
+-- `order::stop_at` meets its contract. Assumes nothing.
+use mathlib.Core.Path.{sym, ap, ◌∙◌}
+use Rattle.statement.specs.Calls.{stop_of}
+use Rattle.order.proofs.stop_at.Goals as goal
+
+pub returns-in-End : goal.returns-in-End
+returns-in-End c = sym (ap (stop_of S) c.enum_told-1.given.1 ∙ e)
+
+pub returns-in-After : goal.returns-in-After
+returns-in-After c = sym (ap (stop_of S) c.stop-1.given.1)

@@ -1,0 +1,20 @@
+use mathlib.Core.Path.{refl}
+use Prim.Native.Nat.{◌+◌, ◌-◌}
+use native.Mathlib.Omega.{arith}
+use lib.Ieee.{nan}
+use Rattle.areas.proofs.Touch as touch
+use Rattle.products.proofs.sub4.Goals as goal
+
+pub loop-i-init : goal.loop-i-init
+loop-i-init c = (omega arith, touch.none nan _ _ _)
+
+pub loop-i-preserved : goal.loop-i-preserved
+loop-i-preserved c =
+    let loop' = c.loop-i in
+    let args' = c.args in
+    (omega arith, touch.more nan _ _ _ _ _ _ _ loop'.invariant.1 refl (omega arith) (λ k h e. omega arith) (rw (loop'.invariant.1.outside (args'.dst + loop'.i) (λ k h e. omega arith), loop'.invariant.1.outside (args'.s0 + loop'.i) (λ k h e. omega arith), loop'.invariant.1.outside (args'.s1 + loop'.i) (λ k h e. omega arith), loop'.invariant.1.outside (args'.s2 + loop'.i) (λ k h e. omega arith), loop'.invariant.1.outside (args'.s3 + loop'.i) (λ k h e. omega arith))))
+
+pub returns : goal.returns
+returns c =
+    let loop' = c.loop-i in
+    touch.end nan _ _ _ _ _ _ loop'.invariant.1 (omega arith) (omega arith)

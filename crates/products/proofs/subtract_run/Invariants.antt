@@ -1,0 +1,12 @@
+-- `products::subtract_run` meets its contract. Touched up to i by differences. Assumes nothing.
+use Prim.Native.Nat.{◌+◌, ◌-◌, ◌≤◌}
+use lib.ListN.{get_or}
+use lib.Ieee.{nan, binary64, sub}
+use Rattle.areas.specs.Touch.{Touched}
+use Rattle.products.proofs.subtract_run.Given as goal
+
+abbrev pub invariant-loop-i : goal.invariant-loop-i
+invariant-loop-i l = (l.i ≤ l.n) × Touched nan l.initial.own l.own l.i (λ i. l.at + i) (λ i. sub binary64 (get_or l.initial.own (l.at + i) nan) (get_or l.work i nan))
+
+abbrev pub decreases-loop-i : goal.decreases-loop-i
+decreases-loop-i l = l.n - l.i
