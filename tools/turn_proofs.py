@@ -249,7 +249,12 @@ class Fn:
                         out += ".requires"
                         state = ("clauses", pre["fields"] if pre else None)
                     elif norm(x).startswith("enum_told") or (parts[k + 1:k + 3] == ["given", "1"] and self.arms(place)):
-                        arms = self.arms(place)
+                        arms = self.arms(place)[::-1]
+                        d = re.search(r"(\d*)$", x).group(1) if norm(x).startswith("enum_told") else ""
+                        if d.isdigit() and int(d) <= len(arms):
+                            arms = arms[int(d) - 1:]
+                        elif not norm(x).startswith("enum_told"):
+                            arms = arms[::-1]
                         if arms and k + 1 == len(parts):
                             out += "." + arms[0]
                             state = ("told",)
@@ -285,7 +290,7 @@ class Fn:
                         out += ".auto" if x == "auto" else ".new"
                         state = ("clauses", callee[state[1]] + ["the-end"])
                     else:
-                        out += "." + norm(x)
+                        out += "." + (x if x.startswith("not-") else norm(x))
                         state = ("done",)
                 elif state[0] == "told":
                     out += ".is"
@@ -358,6 +363,12 @@ def turn(crate, fpath, info):
     dotted = fpath.replace("/", ".")
     text = re.sub(rf"not[-_](true|false) _ \(({WORD}(?:\.{WORD})*\.(?:true|false))\)", r"\2", text)
     text = re.sub(rf"not[-_](true|false) _ ({WORD}(?:\.{WORD})*\.(?:true|false))", r"\2", text)
+    text = re.sub(rf"accepted_first \(rw (\([^()]*\)|\S+) at ({WORD}(?:\.{WORD})*)\.keys2\)", r"\2.not-Accepted \1", text)
+    text = re.sub(r"(?<=[\w')-])\.inv(?![\w-])", ".invariant", text)
+    text = re.sub(r"(?<=[\w')-])\.good(?![\w-])", ".well_formed", text)
+    text = re.sub(r"(?<=[\w')-])\.kept(?=\.[01])", ".auto", text)
+    text = re.sub(r"((?:if\d*|if\d*'|loop-test)\.)taken(?![\w-])", r"\1true", text)
+    text = re.sub(r"((?:if\d*|if\d*'|loop-test)\.)left(?![\w-])", r"\1false", text)
     # a function from a place back to an earlier one: what stood there can be named where one stands
     back = set()
     while True:
@@ -491,7 +502,9 @@ def turn(crate, fpath, info):
         body = fn.paths(body, place if place in fn.parent else None)
         for h in reversed(lets_for(body)):
             body = h + body
+        same = {"c"} | {m2.group(1) for m2 in re.finditer(rf"\blet\s+({WORD})\s+=\s+c(?:\.before)*\s+in\b", body)}
         for h, _, _ in withs:
+            body = re.sub(rf"(?<![^\s(){{}}\[\];,]){re.escape(h)} (?:{'|'.join(map(re.escape, same))})(?:\.before)*(?![.\w'])", h, body)
             body = re.sub(rf"(?<![^\s(){{}}\[\];,])\(?{re.escape(h)} c(?:\.before)*\)?(?![.\w])" if False else rf"(?<![^\s(){{}}\[\];,]){re.escape(h)} c(?:\.before)*(?![.\w])", h, body)
         if new in info["asked"] or old in info["asked"]:
             body = as_record(body, info["asked"].get(new) or info["asked"].get(old), fn.left)

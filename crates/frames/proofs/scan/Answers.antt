@@ -17,26 +17,26 @@ slice_bounds-step-end c =
 pub returns-then-p-eq4 : goal.returns-then-p-eq4
 returns-then-p-eq4 c =
     let b = c in
-    let g = b.loop-at.inv in
+    let g = b.loop-at.invariant in
     let t = c.step-p in
-    stop_scanned _ _ _ _ _ _ _ _ _ _ _ _ _ g b.line_end-e.ensures _ _ _ _ _ (t.ensures.1 g.frames g.holds) b.loop-at-test.taken c.if-p-eq4.true
+    stop_scanned _ _ _ _ _ _ _ _ _ _ _ _ _ g b.line_end-e.ensures _ _ _ _ _ (t.ensures.1 g.frames g.holds) b.loop-at-test.true c.if-p-eq4.true
 
 pub overflow_add-at : goal.overflow_add-at
 overflow_add-at c =
-    let within : (c.loop-at.at ≤ c.line_end-e.result) × (c.line_end-e.result ≤ length c.args.text.now) = end_within _ _ _ _ _ _ _ _ _ _ _ _ _ c.loop-at.invariant c.line_end-e.ensures in let b = c in omega (arith, (within b).1, b.good.0)
+    let within : (c.loop-at.at ≤ c.line_end-e.result) × (c.line_end-e.result ≤ length c.args.text.now) = end_within _ _ _ _ _ _ _ _ _ _ _ _ _ c.loop-at.invariant c.line_end-e.ensures in let b = c in omega (arith, (within).1, b.well_formed.0)
 
 pub overflow_add-line : goal.overflow_add-line
-overflow_add-line c = let b = c in omega (arith, b.loop-at.inv.lines, b.loop-at-test.taken, b.good.0)
+overflow_add-line c = let b = c in omega (arith, b.loop-at.invariant.lines, b.loop-at-test.true, b.well_formed.0)
 
 pub loop-at-preserved : goal.loop-at-preserved
 loop-at-preserved c =
     let within : (c.loop-at.at ≤ c.line_end-e.result) × (c.line_end-e.result ≤ length c.args.text.now) = end_within _ _ _ _ _ _ _ _ _ _ _ _ _ c.loop-at.invariant c.line_end-e.ensures in
     let b = c in
-    let g = b.loop-at.inv in
+    let g = b.loop-at.invariant in
     let t = c.step-p in
-    let n = c.if-e-text.left in
-    let k = t.kept.1.1 in
-    going_next _ _ _ _ _ _ _ _ _ _ _ _ _ g b.line_end-e.ensures _ _ _ _ _ (t.ensures.1 g.frames g.holds) (omega (arith, (within b).1)) c.if-p-eq4.false t.ensures.0 k.0 k.1.0 k.1.1.0 k.1.1.1.0
+    let n = c.if-e-text.false in
+    let k = t.auto in
+    going_next _ _ _ _ _ _ _ _ _ _ _ _ _ g b.line_end-e.ensures _ _ _ _ _ (t.ensures.1 g.frames g.holds) (omega (arith, (within).1)) c.if-p-eq4.false t.ensures.0 k.starts k.rows k.values k.right
 
 pub returns-then-p-eq3 : goal.returns-then-p-eq3
 returns-then-p-eq3 c = done_scanned _ _ _ _ _ _ _ _ _ _ _ _ c.loop-at.invariant c.loop-at-test.false c.if-p-eq3.true

@@ -32,7 +32,7 @@ returns-then-side_ok c =
     let a = b.args in
     let f = c.to_float in (
       record { n = b.requires.0.n; known = b.requires.0.known },
-      λ st ro va j h. side_yes a.p st ro va a.right.now j h a.position a.bits f.result (holds t) b.requires.0.n b.requires.1 f.ensures,
+      λ st ro va j h. side_yes a.p st ro va a.right.now j h a.position a.bits f.result (holds) b.requires.0.n b.requires.1 f.ensures,
     )
 
 pub returns-else-side_ok : goal.returns-else-side_ok

@@ -22,7 +22,7 @@ fill_part-requires c =
     let holds : let a = c.args in stored_ok a.p.stage a.p.n a.p.known a.p.count a.column ≡ true = sym c.stored_ok.ensures ∙ c.if-stored_ok.true in
     let says : let a = c.args in Stores a.p.stage a.p.n a.p.known a.p.count a.column = stored_says _ _ _ _ _ (holds) in
     let u = says in
-    let b = (entry c).requires in
+    let b = c.requires in
     simp (length-take, length-drop) (omega (arith, u.inside, u.rises, b.0.n, b.1))
 
 pub offset_bounds-rows-count : goal.offset_bounds-rows-count
@@ -33,7 +33,7 @@ offset_bounds-rows-count c =
 pub bounds-rows-count : goal.bounds-rows-count
 bounds-rows-count c =
     let holds : let a = c.args in stored_ok a.p.stage a.p.n a.p.known a.p.count a.column ≡ true = sym c.stored_ok.ensures ∙ c.if-stored_ok.true in
-    let says : let a = c.args in Stores a.p.stage a.p.n a.p.known a.p.count a.column = stored_says _ _ _ _ _ (holds) in let t = c in omega (arith, (says t).room, t.requires.2)
+    let says : let a = c.args in Stores a.p.stage a.p.n a.p.known a.p.count a.column = stored_says _ _ _ _ _ (holds) in let t = c in omega (arith, (says).room, t.requires.2)
 
 pub offset_bounds-values-count : goal.offset_bounds-values-count
 offset_bounds-values-count c =
@@ -43,7 +43,7 @@ offset_bounds-values-count c =
 pub bounds-values-count : goal.bounds-values-count
 bounds-values-count c =
     let holds : let a = c.args in stored_ok a.p.stage a.p.n a.p.known a.p.count a.column ≡ true = sym c.stored_ok.ensures ∙ c.if-stored_ok.true in
-    let says : let a = c.args in Stores a.p.stage a.p.n a.p.known a.p.count a.column = stored_says _ _ _ _ _ (holds) in omega (arith, (says).room, (entry c).requires.3)
+    let says : let a = c.args in Stores a.p.stage a.p.n a.p.known a.p.count a.column = stored_says _ _ _ _ _ (holds) in omega (arith, (says).room, c.requires.3)
 
 pub overflow_add-result : goal.overflow_add-result
 overflow_add-result c =
@@ -54,12 +54,12 @@ pub returns-then-stored_ok : goal.returns-then-stored_ok
 returns-then-stored_ok c =
     let holds : let a = c.args in stored_ok a.p.stage a.p.n a.p.known a.p.count a.column ≡ true = sym c.stored_ok.ensures ∙ c.if-stored_ok.true in
     let says : let a = c.args in Stores a.p.stage a.p.n a.p.known a.p.count a.column = stored_says _ _ _ _ _ (holds) in
-    let b = entry c in
+    let b = c in
     let a = b.args in
     let u = says in
     let g = tail_filled a.p.count a.starts.now _ (a.p.known.0 + 1) (a.column.0 - a.p.known.0) c.fill_part.ensures in (
-      record { n = b.pre.0.n; known = omega (arith, u.inside) },
-      λ ri j h. stored_yes a.p a.starts.now a.rows.now a.values.now ri j h a.column a.row a.bits c.to_float.result _ (holds) b.pre.0.n b.pre.1 b.pre.2 b.pre.3 g c.to_float.ensures,
+      record { n = b.requires.0.n; known = omega (arith, u.inside) },
+      λ ri j h. stored_yes a.p a.starts.now a.rows.now a.values.now ri j h a.column a.row a.bits c.to_float.result _ (holds) b.requires.0.n b.requires.1 b.requires.2 b.requires.3 g c.to_float.ensures,
     )
 
 pub returns-else-stored_ok : goal.returns-else-stored_ok

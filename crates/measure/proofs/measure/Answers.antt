@@ -1,7 +1,6 @@
 -- `measure::measure` meets its contract: the tests in order, each after those before it have passed. Assumes nothing.
 use Rattle.measure.proofs.Stages.{at_input, well, at_room, enough, at_cap, past_cap, long, stopped}
 use Rattle.tree.proofs.Totals.{counts_to, entries_are, work_is}
-use Rattle.room.proofs.Short.{accepted_first}
 use Rattle.statement.specs.Answers.{number}
 use Rattle.laws.specs.Answered.{answered}
 use Rattle.statement.specs.Calls.{factor_needs}
@@ -18,7 +17,7 @@ returns-in_default c =
     let match' = c.in_default in
     let M = matrix args'.n args'.input_starts.now args'.input_rows.now args'.input_values.now in
     let e = check'.ensures.value in
-    stopped M args'.cap args'.room _ _ stop'.ensures (λ q. accepted_first (rw q at match'.keys2)) (e ∙ at_input M _ _ (λ q. accepted_first (rw (e ∙ q) at match'.keys2)))
+    stopped M args'.cap args'.room _ _ stop'.ensures (λ q. match'.not-Accepted q) (e ∙ at_input M _ _ (λ q. match'.not-Accepted (e ∙ q)))
 
 pub scratch-s-requires : goal.scratch-s-requires
 scratch-s-requires c =
@@ -41,14 +40,14 @@ returns-in_default-s c =
     let M = matrix args'.n args'.input_starts.now args'.input_rows.now args'.input_values.now in
     let a = sym check'.ensures.value ∙ enum-told'.is in
     let e = scratch'.ensures in
-    stopped M args'.cap args'.room _ _ stop2'.ensures (λ q. accepted_first (rw q at match2'.keys2)) (e ∙ at_room M _ _ a (λ q. accepted_first (rw (e ∙ q) at match2'.keys2)))
+    stopped M args'.cap args'.room _ _ stop2'.ensures (λ q. match2'.not-Accepted q) (e ∙ at_room M _ _ a (λ q. match2'.not-Accepted (e ∙ q)))
 
 pub tree_and_counts-requires : goal.tree_and_counts-requires
 unfolding factor_needs answered
 tree_and_counts-requires c =
     let args' = c.args in
     let check' = c.check-a in
-    let enum-told' = c.in-Accepted-s in
+    let enum-told' = c.in-Accepted in
     let scratch' = c.scratch-s in
     let enum-told2' = c.in-Accepted-s in
     let pre' = c.requires in
@@ -62,7 +61,7 @@ unfolding factor_needs answered
 entries-e-requires c =
     let args' = c.args in
     let check' = c.check-a in
-    let enum-told' = c.in-Accepted-s in
+    let enum-told' = c.in-Accepted in
     let scratch' = c.scratch-s in
     let enum-told2' = c.in-Accepted-s in
     let pre' = c.requires in
@@ -77,7 +76,7 @@ unfolding factor_needs answered
 returns-then-cap-e c =
     let args' = c.args in
     let check' = c.check-a in
-    let enum-told' = c.in-Accepted-s in
+    let enum-told' = c.in-Accepted in
     let scratch' = c.scratch-s in
     let enum-told2' = c.in-Accepted-s in
     let entries' = c.entries-e in
@@ -95,7 +94,7 @@ unfolding factor_needs answered
 work-w-requires c =
     let args' = c.args in
     let check' = c.check-a in
-    let enum-told' = c.in-Accepted-s in
+    let enum-told' = c.in-Accepted in
     let scratch' = c.scratch-s in
     let enum-told2' = c.in-Accepted-s in
     let pre' = c.requires in
@@ -110,7 +109,7 @@ unfolding factor_needs answered
 returns c =
     let args' = c.args in
     let check' = c.check-a in
-    let enum-told' = c.in-Accepted-s in
+    let enum-told' = c.in-Accepted in
     let scratch' = c.scratch-s in
     let enum-told2' = c.in-Accepted-s in
     let tree-and-counts' = c.tree_and_counts in

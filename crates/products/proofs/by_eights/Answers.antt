@@ -203,7 +203,7 @@ add8-requires c =
     let l = c.loop-k in
     rise.eights a.m l.k a.q a.kw _ l.src _ _ _ _ p.above p.here p.stored l.invariant.1 refl refl refl refl _ _ _ _ c.loop-k-test.true refl refl refl refl in
     let t = c.before in
-    let f = turn t in
+    let f = turn in
     let l = t.loop-k in
     (rise.some _ _ t.requires.here, f.low.in₀, f.low.in₁, f.low.in₂, f.low.in₃, f.high.in₀, f.high.in₁, f.high.in₂, f.high.in₃, (rise.begun_on _ t.requires l.invariant.2 l.invariant.0).room)
 
@@ -224,7 +224,7 @@ overflow_add-src-in-loop-k c =
     let p = c.requires in
     let l = c.loop-k in
     rise.eights a.m l.k a.q a.kw _ l.src _ _ _ _ p.above p.here p.stored l.invariant.1 refl refl refl refl _ _ _ _ c.loop-k-test.true refl refl refl refl in
-    let fits : (s : ℕ) → s + (c.args.m - c.args.q) ≤ length c.args.v.now → Fits w64 (s + (c.args.m - c.loop-k.k)) = λ s h. rise.wide s c.args.m c.loop-k.k _ _ h (omega arith) c.requires.few in let t = c.before.before.before.before in fits t _ (turn t).high.in₃
+    let fits : (s : ℕ) → s + (c.args.m - c.args.q) ≤ length c.args.v.now → Fits w64 (s + (c.args.m - c.loop-k.k)) = λ s h. rise.wide s c.args.m c.loop-k.k _ _ h (omega arith) c.requires.few in let t = c.before.before.before.before in fits _ (turn).high.in₃
 
 pub overflow_sub-src-in-loop-k : goal.overflow_sub-src-in-loop-k
 overflow_sub-src-in-loop-k c =
@@ -250,7 +250,7 @@ loop-k-preserved c =
     let t = c.before.before.before.before in
     let a = t.args in
     let l = t.loop-k in
-    let f = turn t in
+    let f = turn in
     (t.loop-k-test.true, f.at₈, rise.summed_more8 _ a.v.now a.m a.q _ _ _ l.k _ _ _ _ _ _ _ _ _ _ (le_trans t.loop-k-test.true t.requires.above) f l.invariant.2 c.add8.ensures)
 
 pub by_fours-requires : goal.by_fours-requires

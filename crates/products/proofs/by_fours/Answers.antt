@@ -95,7 +95,7 @@ add4-requires c =
     let l = c.loop-k in
     rise.fours a.m l.k a.q a.kw _ l.src _ _ _ _ p.above p.here p.stored l.invariant.1 refl refl refl refl c.loop-k-test.true in
     let t = c.before in
-    let f = turn t in
+    let f = turn in
     let l = t.loop-k in
     (rise.some _ _ t.requires.here, f.in₀, f.in₁, f.in₂, f.in₃, (rise.begun_on _ t.requires l.invariant.2 l.invariant.0).room)
 
@@ -112,7 +112,7 @@ overflow_add-src-in-loop-k c =
     let p = c.requires in
     let l = c.loop-k in
     rise.fours a.m l.k a.q a.kw _ l.src _ _ _ _ p.above p.here p.stored l.invariant.1 refl refl refl refl c.loop-k-test.true in
-    let fits : (s : ℕ) → s + (c.args.m - c.args.q) ≤ length c.args.v.now → Fits w64 (s + (c.args.m - c.loop-k.k)) = λ s h. rise.wide s c.args.m c.loop-k.k _ _ h (omega arith) c.requires.few in let t = c.before.before.before.before in fits t _ (turn t).in₃
+    let fits : (s : ℕ) → s + (c.args.m - c.args.q) ≤ length c.args.v.now → Fits w64 (s + (c.args.m - c.loop-k.k)) = λ s h. rise.wide s c.args.m c.loop-k.k _ _ h (omega arith) c.requires.few in let t = c.before.before.before.before in fits _ (turn).in₃
 
 pub overflow_sub-src-in-loop-k : goal.overflow_sub-src-in-loop-k
 overflow_sub-src-in-loop-k c =
@@ -134,7 +134,7 @@ loop-k-preserved c =
     let t = c.before.before.before.before in
     let a = t.args in
     let l = t.loop-k in
-    let f = turn t in
+    let f = turn in
     (t.loop-k-test.true, f.at₄, rise.summed_more4 _ a.v.now a.m a.q _ _ _ l.k _ _ _ _ _ _ (le_trans t.loop-k-test.true t.requires.above) f l.invariant.2 c.add4.ensures)
 
 pub by_ones-requires : goal.by_ones-requires
