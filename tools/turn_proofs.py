@@ -139,6 +139,8 @@ def tail_of(body):
 def halves(expr):
     """The two parts of a pair in brackets, or None."""
     e = expr.strip()
+    if e.startswith("("):
+        e = re.sub(r",\s*\)$", ")", e)
     if not e.startswith("("):
         return None
     depth, comma = 0, None
