@@ -43,8 +43,8 @@ fn length(line: &[u8; 9]) -> usize {
     value
 }
 
-fn cannot_stand(rt: &impl Eprint) -> io::Result<bool> {
-    rt.eprintln("replay: an item cannot stand")?;
+fn cannot_stand(rt: &impl Eprint) -> Result<bool> {
+    eprintln!(rt; "replay: an item cannot stand")?;
     Ok(false)
 }
 
@@ -64,27 +64,27 @@ fn answer(rt: &impl Print, job: &[u8]) -> Result<()> {
 }
 
 // Reads the k bytes of an item and its LF into the text, and answers it.
-fn answer_rest<R: Read>(
+fn answer_rest(
     rt: &(impl Print + Eprint),
-    input: &mut R,
+    input: &mut impl Read,
     text: &mut [u8],
     k: usize,
 ) -> Result<bool> {
     if k >= text.len() {
-        return Ok(cannot_stand(rt)?);
+        return cannot_stand(rt);
     }
     if read_full(input, &mut text[..k + 1]).context("replay: standard input")? <= k {
-        return Ok(cannot_stand(rt)?);
+        return cannot_stand(rt);
     }
     if text[k] != b'\n' {
-        return Ok(cannot_stand(rt)?);
+        return cannot_stand(rt);
     }
     answer(rt, &text[..k])?;
     Ok(true)
 }
 
 // Answers one item, and says whether to go on.
-fn answer_next<R: Read>(rt: &(impl Print + Eprint), input: &mut R) -> Result<bool> {
+fn answer_next(rt: &(impl Print + Eprint), input: &mut impl Read) -> Result<bool> {
     let mut line = [0u8; 9];
     if read_full(input, &mut line).context("replay: standard input")? == 0 {
         return Ok(false);
