@@ -35,7 +35,8 @@ fn answer<R: Read, W: Write>(input: &mut R, output: &mut W) -> anyhow::Result<()
     let mut out = [0u8; 2959];
     let k = read_full(input, &mut buffer).context("job: standard input")?;
     let r = answer_text(&buffer, k, &mut out);
-    output.write_all(&out[..r]).context("job: standard output")
+    output.write_all(&out[..r]).context("job: standard output")?;
+    Ok(())
 }
 
 fn main(rt: HostRuntime) -> anyhow::Result<()> {
