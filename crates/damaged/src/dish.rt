@@ -122,10 +122,8 @@ pub fn buffer() -> [f64; 400]
 {
     let first = [1.5, 0.1, -3.0, 0.7, 5.25, 1000000.3, 7.0, 8.0];
     let mut b = [0.0; 400];
-    let mut i: usize = 0;
-    while i < 400 {
+    for i in 0..400 {
         b[i] = first[i % 8] + nearest_u64_to_f64((i % 192 / 8) as u64);
-        i += 1;
     }
     b[200] = 1.0 / 0.0;
     b[210] = 0.0 / 0.0;

@@ -5,134 +5,129 @@ use crate::lending::Lending;
 use lines::bits_of;
 use lists::{say, say_bits, say_number};
 use statement::{Answer, Stage};
+use std::io;
 use std::num::wrapping_add_u64;
 
-pub fn say_dish(dish: Dish) {
+pub fn say_dish(rt: &impl Print, dish: Dish) -> io::Result<()> {
     match dish {
-        Dish::Six => say(b"six"),
-        Dish::Three => say(b"three"),
-        Dish::Four => say(b"four"),
-        Dish::Wide => say(b"wide"),
-        Dish::Bare => say(b"bare"),
+        Dish::Six => say(rt, b"six"),
+        Dish::Three => say(rt, b"three"),
+        Dish::Four => say(rt, b"four"),
+        Dish::Wide => say(rt, b"wide"),
+        Dish::Bare => say(rt, b"bare"),
     }
 }
 
-fn say_stage(stage: Stage) {
+fn say_stage(rt: &impl Print, stage: Stage) -> io::Result<()> {
     match stage {
-        Stage::Empty => say(b" empty"),
-        Stage::Analysed => say(b" analysed"),
-        Stage::Partial => say(b" partial"),
-        Stage::Full => say(b" full"),
+        Stage::Empty => say(rt, b" empty"),
+        Stage::Analysed => say(rt, b" analysed"),
+        Stage::Partial => say(rt, b" partial"),
+        Stage::Full => say(rt, b" full"),
     }
 }
 
-fn say_count(which: usize) {
+fn say_count(rt: &impl Print, which: usize) -> io::Result<()> {
     match which {
-        1 => say(b" n"),
-        2 => say(b" supernodes"),
-        3 => say(b" rows"),
-        4 => say(b" entries"),
-        _ => say(b" others"),
+        1 => say(rt, b" n"),
+        2 => say(rt, b" supernodes"),
+        3 => say(rt, b" rows"),
+        4 => say(rt, b" entries"),
+        _ => say(rt, b" others"),
     }
 }
 
-pub fn say_area(area: usize, at: usize) {
-    say(b" area");
-    say_number(area);
-    say(b" at");
-    say_number(at);
+pub fn say_area(rt: &impl Print, area: usize, at: usize) -> io::Result<()> {
+    say(rt, b" area")?;
+    say_number(rt, area)?;
+    say(rt, b" at")?;
+    say_number(rt, at)
 }
 
-pub fn say_damage(damage: Damage) {
+pub fn say_damage(rt: &impl Print, damage: Damage) -> io::Result<()> {
     match damage {
-        Damage::Nothing => say(b" sound"),
-        Damage::State(stage) => say_stage(stage),
+        Damage::Nothing => say(rt, b" sound"),
+        Damage::State(stage) => say_stage(rt, stage),
         Damage::Count { which, to } => {
-            say_count(which);
-            say_number(to);
+            say_count(rt, which)?;
+            say_number(rt, to)
         }
         Damage::Word { area, at, to } => {
-            say_area(area, at);
-            say(b" is");
-            say_number(to);
+            say_area(rt, area, at)?;
+            say(rt, b" is")?;
+            say_number(rt, to)
         }
         Damage::Swapped { area, at } => {
-            say_area(area, at);
-            say(b" swapped");
+            say_area(rt, area, at)?;
+            say(rt, b" swapped")
         }
-        Damage::Cleared => say(b" cleared"),
-        Damage::NoValues => say(b" valueless"),
+        Damage::Cleared => say(rt, b" cleared"),
+        Damage::NoValues => say(rt, b" valueless"),
     }
 }
 
-pub fn say_lending(lending: Lending) {
+pub fn say_lending(rt: &impl Print, lending: Lending) -> io::Result<()> {
     match lending {
-        Lending::Exact => say(b", exact:"),
-        Lending::Loose => say(b", loose:"),
+        Lending::Exact => say(rt, b", exact:"),
+        Lending::Loose => say(rt, b", loose:"),
         Lending::Short(area) => {
-            say(b", short");
-            say_number(area);
-            say(b":");
+            say(rt, b", short")?;
+            say_number(rt, area)?;
+            say(rt, b":")
         }
-        Lending::LongSide => say(b", long side:"),
-        Lending::ShortAll => say(b", short 7 8 side:"),
-        Lending::ShortScratch => say(b", short 7 8:"),
+        Lending::LongSide => say(rt, b", long side:"),
+        Lending::ShortAll => say(rt, b", short 7 8 side:"),
+        Lending::ShortScratch => say(rt, b", short 7 8:"),
     }
 }
 
-pub fn say_details(answer: Answer) {
-    say_number(answers::first_detail(answer));
-    say_number(answers::second_detail(answer));
+pub fn say_details(rt: &impl Print, answer: Answer) -> io::Result<()> {
+    say_number(rt, answers::first_detail(answer))?;
+    say_number(rt, answers::second_detail(answer))
 }
 
 // Nothing, where the scratch is zero and a refusal kept the buffer.
-pub fn say_fault(zero: bool, kept: bool) {
+pub fn say_fault(rt: &impl Print, zero: bool, kept: bool) -> io::Result<()> {
     if !zero {
-        say(b" SCRATCH");
+        say(rt, b" SCRATCH")?;
     }
     if !kept {
-        say(b" CHANGED");
+        say(rt, b" CHANGED")?;
     }
+    Ok(())
 }
 
 // The sum of the bit patterns.
 pub fn sum(s: &[f64]) -> u64 {
-    let mut t: u64 = 0;
-    let mut i: usize = 0;
-    while i < s.len() {
-        t = wrapping_add_u64(t, bits_of(s[i]));
-        i += 1;
+    let mut t = 0;
+    for x in s {
+        t = wrapping_add_u64(t, bits_of(*x));
     }
     t
 }
 
-pub fn say_all(s: &[f64]) {
-    let mut i: usize = 0;
-    while i < s.len() {
-        say_bits(bits_of(s[i]));
-        i += 1;
+pub fn say_all(rt: &impl Print, s: &[f64]) -> io::Result<()> {
+    for x in s {
+        say_bits(rt, bits_of(*x))?;
     }
+    Ok(())
 }
 
 pub fn zero_words(s: &[usize]) -> bool {
-    let mut i: usize = 0;
-    while i < s.len() {
-        if s[i] != 0 {
+    for x in s {
+        if *x != 0 {
             return false;
         }
-        i += 1;
     }
     true
 }
 
 // 0.0, and not -0.0.
 pub fn zero_floats(s: &[f64]) -> bool {
-    let mut i: usize = 0;
-    while i < s.len() {
-        if bits_of(s[i]) != 0 {
+    for x in s {
+        if bits_of(*x) != 0 {
             return false;
         }
-        i += 1;
     }
     true
 }

@@ -10,18 +10,20 @@ mod line;
 mod trial;
 mod walk;
 
-fn main() {
-    walk::states();
-    walk::counts();
-    walk::short_areas();
-    walk::words();
-    walk::every_word();
-    walk::cleared();
-    walk::other_numbers();
-    walk::order();
-    walk::many();
-    walk::too_many();
-    walk::wrong_lengths();
-    walk::many_in_order();
-    walk::columns();
+use std::io;
+
+fn main(rt: HostRuntime) -> io::Result<()> {
+    walk::states(&rt)?;
+    walk::counts(&rt)?;
+    walk::short_areas(&rt)?;
+    walk::words(&rt)?;
+    walk::every_word(&rt)?;
+    walk::cleared(&rt)?;
+    walk::other_numbers(&rt)?;
+    walk::order(&rt)?;
+    walk::many(&rt)?;
+    walk::too_many(&rt)?;
+    walk::wrong_lengths(&rt)?;
+    walk::many_in_order(&rt)?;
+    walk::columns(&rt)
 }

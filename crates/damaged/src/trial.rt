@@ -10,6 +10,7 @@ use answers::number;
 use lists::{say, say_bits, say_number};
 use solve::{column, solve};
 use statement::{Answer, Factored, Record};
+use std::io;
 
 // What is called: solve for so many right sides, with all that can be said of it or with the number alone, or the view of a
 // column.
@@ -21,27 +22,36 @@ pub enum Call {
 
 // The number, and what is at fault besides; the details, 1 for scratch that is zero, the buffer's sum before and after,
 // and the solution where there is one.
-fn say_after(whole: bool, answer: Answer, before: u64, words: &[usize], floats: &[f64], b: &[f64]) {
+fn say_after(
+    rt: &impl Print,
+    whole: bool,
+    answer: Answer,
+    before: u64,
+    words: &[usize],
+    floats: &[f64],
+    b: &[f64],
+) -> io::Result<()> {
     let accepted = number(answer) == 0;
     let after = sum(b);
     let zero = zero_words(words) & zero_floats(floats);
-    say_number(number(answer));
-    say_fault(zero, accepted | (before == after));
+    say_number(rt, number(answer))?;
+    say_fault(rt, zero, accepted | (before == after))?;
     if !whole {
-        return;
+        return Ok(());
     }
-    say_details(answer);
-    say_number(zero as usize);
-    say_bits(before);
-    say_bits(after);
+    say_details(rt, answer)?;
+    say_number(rt, zero as usize)?;
+    say_bits(rt, before)?;
+    say_bits(rt, after)?;
     if accepted {
-        say(b" :");
-        say_all(b);
+        say(rt, b" :")?;
+        say_all(rt, b)?;
     }
-    say(b"\n");
+    say(rt, b"\n")
 }
 
 fn solve_and_say(
+    rt: &impl Print,
     whole: bool,
     harmed: Record,
     permutation: &[usize],
@@ -53,7 +63,7 @@ fn solve_and_say(
     floats: &mut [f64],
     sides: usize,
     b: &mut [f64],
-) {
+) -> io::Result<()> {
     let before = sum(b);
     let answer = solve(
         harmed,
@@ -67,11 +77,12 @@ fn solve_and_say(
         sides,
         b,
     );
-    say_after(whole, answer, before, words, floats, b);
+    say_after(rt, whole, answer, before, words, floats, b)
 }
 
 // The length of the part, and the sum of its bits.
 fn view_and_say(
+    rt: &impl Print,
     harmed: Record,
     permutation: &[usize],
     firsts: &[usize],
@@ -79,7 +90,7 @@ fn view_and_say(
     rows: &[usize],
     values: &[f64],
     q: usize,
-) {
+) -> io::Result<()> {
     let part = column(
         harmed,
         permutation,
@@ -89,12 +100,13 @@ fn view_and_say(
         values,
         Factored(q),
     );
-    say_number(part.len());
-    say_bits(sum(part));
-    say(b"\n");
+    say_number(rt, part.len())?;
+    say_bits(rt, sum(part))?;
+    say(rt, b"\n")
 }
 
 fn call_and_say(
+    rt: &impl Print,
     call: Call,
     harmed: Record,
     permutation: &[usize],
@@ -105,10 +117,11 @@ fn call_and_say(
     words: &mut [usize],
     floats: &mut [f64],
     b: &mut [f64],
-) {
+) -> io::Result<()> {
     match call {
         Call::Solving { whole, sides } => {
             solve_and_say(
+                rt,
                 whole,
                 harmed,
                 permutation,
@@ -120,15 +133,16 @@ fn call_and_say(
                 floats,
                 sides,
                 b,
-            );
+            )
         }
         Call::Viewing(q) => {
-            view_and_say(harmed, permutation, firsts, starts, rows, values, q);
+            view_and_say(rt, harmed, permutation, firsts, starts, rows, values, q)
         }
     }
 }
 
 fn lend(
+    rt: &impl Print,
     call: Call,
     sound: Record,
     damage: Damage,
@@ -142,7 +156,7 @@ fn lend(
     floats: &mut [f64],
     b: &mut [f64],
     length: usize,
-) {
+) -> io::Result<()> {
     let p = lent(sound, lending, 1, permutation.len());
     let f = lent(sound, lending, 2, firsts.len());
     let s = lent(sound, lending, 3, starts.len());
@@ -152,6 +166,7 @@ fn lend(
     let x = lent(sound, lending, 8, floats.len());
     let n = least(length, b.len());
     call_and_say(
+        rt,
         call,
         harmed(sound, damage),
         &permutation[..p],
@@ -162,11 +177,18 @@ fn lend(
         &mut words[..w],
         &mut floats[..x],
         &mut b[..n],
-    );
+    )
 }
 
 // The scratch is lent full of other numbers; of the buffer so many are lent as `length` says.
-fn trial(dish: Dish, call: Call, damage: Damage, lending: Lending, length: usize) {
+fn trial(
+    rt: &impl Print,
+    dish: Dish,
+    call: Call,
+    damage: Damage,
+    lending: Lending,
+    length: usize,
+) -> io::Result<()> {
     let mut p = permutation(dish);
     let mut f = firsts(dish);
     let mut s = starts(dish);
@@ -181,6 +203,7 @@ fn trial(dish: Dish, call: Call, damage: Damage, lending: Lending, length: usize
     let mut floats = [9.0; 8];
     let mut b = buffer();
     lend(
+        rt,
         call,
         record(dish),
         damage,
@@ -194,50 +217,63 @@ fn trial(dish: Dish, call: Call, damage: Damage, lending: Lending, length: usize
         &mut floats,
         &mut b,
         length,
-    );
+    )
 }
 
 // One solve of one right side, and its line.
-pub fn solved(dish: Dish, damage: Damage, lending: Lending) {
+pub fn solved(rt: &impl Print, dish: Dish, damage: Damage, lending: Lending) -> io::Result<()> {
     let call = Call::Solving {
         whole: true,
         sides: 1,
     };
     let length = lent(record(dish), lending, 12, 400);
-    say_dish(dish);
-    say_damage(damage);
-    say_lending(lending);
-    trial(dish, call, damage, lending, length);
+    say_dish(rt, dish)?;
+    say_damage(rt, damage)?;
+    say_lending(rt, lending)?;
+    trial(rt, dish, call, damage, lending, length)
 }
 
 // One solve of so many right sides in a buffer of some length, and its line.
-pub fn solved_many(dish: Dish, damage: Damage, lending: Lending, sides: usize, length: usize) {
+pub fn solved_many(
+    rt: &impl Print,
+    dish: Dish,
+    damage: Damage,
+    lending: Lending,
+    sides: usize,
+    length: usize,
+) -> io::Result<()> {
     let call = Call::Solving { whole: true, sides };
-    say_dish(dish);
-    say_damage(damage);
-    say(b",");
-    say_number(sides);
-    say(b" sides in");
-    say_number(length);
-    say_lending(lending);
-    trial(dish, call, damage, lending, length);
+    say_dish(rt, dish)?;
+    say_damage(rt, damage)?;
+    say(rt, b",")?;
+    say_number(rt, sides)?;
+    say(rt, b" sides in")?;
+    say_number(rt, length)?;
+    say_lending(rt, lending)?;
+    trial(rt, dish, call, damage, lending, length)
 }
 
 // The number of one solve.
-pub fn numbered(dish: Dish, damage: Damage) {
+pub fn numbered(rt: &impl Print, dish: Dish, damage: Damage) -> io::Result<()> {
     let call = Call::Solving {
         whole: false,
         sides: 1,
     };
-    trial(dish, call, damage, Lending::Exact, record(dish).n);
+    trial(rt, dish, call, damage, Lending::Exact, record(dish).n)
 }
 
 // One view and its line.
-pub fn viewed(dish: Dish, damage: Damage, lending: Lending, q: usize) {
-    say_dish(dish);
-    say(b" column");
-    say_number(q);
-    say_damage(damage);
-    say_lending(lending);
-    trial(dish, Call::Viewing(q), damage, lending, 0);
+pub fn viewed(
+    rt: &impl Print,
+    dish: Dish,
+    damage: Damage,
+    lending: Lending,
+    q: usize,
+) -> io::Result<()> {
+    say_dish(rt, dish)?;
+    say(rt, b" column")?;
+    say_number(rt, q)?;
+    say_damage(rt, damage)?;
+    say_lending(rt, lending)?;
+    trial(rt, dish, Call::Viewing(q), damage, lending, 0)
 }

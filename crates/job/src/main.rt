@@ -1,11 +1,14 @@
 // The job program (document 01, "Job frames"): reads standard input into a buffer, and writes what `answer_text` leaves.
 #![tactic(auto)]
 
-ghost use Rattle.std.specs.Prelude.{◌≡◌, List, ℕ, min};
-ghost use Rattle.statement.specs.Job.{ReadIn, Works};
+ghost use Rattle.std.specs.Prelude.{◌≡◌, List, ℕ, min, OnOk, IfSome};
+ghost use Rattle.std.specs.Io.KnownBytes.{Appends};
+ghost use Rattle.statement.specs.Job.{job, ReadIn, Works};
 
+use anyhow::Context;
 use jobs::run_job;
-use libc::{STDIN_FILENO, STDOUT_FILENO};
+use lists::read_full;
+use std::io::{Read, Write};
 
 // As many bytes of a text as decide its answer: what follows them changes none.
 const TEXT_LIMIT: usize = 113555;
@@ -24,22 +27,18 @@ fn answer_text(buffer: &[u8; TEXT_LIMIT], k: usize, out: &mut [u8; 2959]) -> usi
     run_job(&bytes[..least(k, bytes.len())], out)
 }
 
-// A count that is short means the end of the input or a failed read; one more read tells which.
-fn is_ended() -> bool {
-    let mut next = [0u8; 1];
-    libc::read(STDIN_FILENO, &mut next) == 0
-}
-
-fn main() {
+// Reads a text and writes its answer.
+fn answer<R: Read, W: Write>(input: &mut R, output: &mut W) -> anyhow::Result<()>
+    ensures { OnOk result (IfSome (R.remaining input.old) (λ text. Appends (W.contents output.old) (W.contents output.new) (job text))) }
+{
     let mut buffer = [0u8; TEXT_LIMIT];
     let mut out = [0u8; 2959];
-    let k = io::read_full(STDIN_FILENO, &mut buffer);
-    if k < TEXT_LIMIT && !is_ended() {
-        os::fail(b"job: standard input");
-        return;
-    }
+    let k = read_full(input, &mut buffer).context("job: standard input")?;
     let r = answer_text(&buffer, k, &mut out);
-    if !io::write_all(STDOUT_FILENO, &out[..r]) {
-        os::fail(b"job: standard output");
-    }
+    output.write_all(&out[..r]).context("job: standard output")?;
+    Ok(())
+}
+
+fn main(rt: HostRuntime) -> anyhow::Result<()> {
+    answer(&mut rt.stdin(), &mut rt.stdout())
 }

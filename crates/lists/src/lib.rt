@@ -1,9 +1,12 @@
-// What the programs share that run lists: the numbers of a line, a sum by which two lists are compared, and what is written.
+// What the programs share that run lists: reading the input, the numbers of a line, a sum by which two lists are compared,
+// and what is written.
 #![tactic(auto)]
 
-ghost use Rattle.std.specs.Prelude.{◌≤◌, ◌<◌, length};
+ghost use Rattle.std.specs.Prelude.{◌≤◌, ◌<◌, length, take, IfOk};
+ghost use Rattle.std.specs.Io.KnownBytes.{Consumes, IsAtEnd};
 
-use libc::STDOUT_FILENO;
+use std::io;
+use std::io::Read;
 
 // A number, and where its digits end.
 #[derive(Clone, Copy)]
@@ -17,6 +20,23 @@ struct Word {
 pub struct Line {
     pub count: usize,
     pub end: usize,
+}
+
+// Reads until the buffer is full or the input ends, and answers how many bytes that put at its start.
+pub fn read_full<R: Read>(input: &mut R, buffer: &mut [u8]) -> io::Result<usize>
+    ensures bound { IfOk result (λ n. n ≤ length buffer.new) }
+    ensures bytes { IfOk result (λ n. Consumes (R.remaining input.old) (R.remaining input.new) (take n buffer.new)) }
+    ensures end { IfOk result (λ n. n < length buffer.new → IsAtEnd (R.remaining input.new)) }
+{
+    let mut done = 0;
+    while done < buffer.len() {
+        let n = input.read(&mut buffer[done..])?;
+        if n == 0 {
+            break;
+        }
+        done += n;
+    }
+    Ok(done)
 }
 
 // The number of a digit, and 10 for any other byte.
@@ -80,18 +100,16 @@ pub fn added(h: u64, x: u64) -> u64 {
     ((h << 1) | (h >> 63)) ^ x
 }
 
-pub fn say(text: &[u8]) {
-    io::write_all(STDOUT_FILENO, text);
+pub fn say(rt: &impl Print, text: &[u8]) -> io::Result<()> {
+    rt.write_all(text)
 }
 
 // A number with a space before it.
-pub fn say_number(x: usize) {
-    say(b" ");
-    io::print_decimal(STDOUT_FILENO, x as u64);
+pub fn say_number(rt: &impl Print, x: usize) -> io::Result<()> {
+    print!(rt; " {x}")
 }
 
 // Sixteen digits with a space before them.
-pub fn say_bits(x: u64) {
-    say(b" ");
-    io::print_hex(STDOUT_FILENO, x, 16);
+pub fn say_bits(rt: &impl Print, x: u64) -> io::Result<()> {
+    print!(rt; " {x:016x}")
 }

@@ -3,9 +3,12 @@
 // LF; one that cannot stand, or has more than 131,071 bytes, ends the program.
 #![tactic(auto)]
 
+use anyhow::{Context, Result};
 use jobs::run_job;
-use libc::{STDERR_FILENO, STDIN_FILENO, STDOUT_FILENO};
 use lines::put_hex;
+use lists::{read_full, say};
+use std::io;
+use std::io::Read;
 
 // The number of an uppercase hexadecimal digit, and 16 for any other byte.
 fn digit(b: u8) -> usize {
@@ -27,14 +30,12 @@ fn digit(b: u8) -> usize {
 // The length that an item's first line says, and usize::MAX where it says none.
 fn length(line: &[u8; 9]) -> usize {
     let mut value = 0;
-    let mut i = 0;
-    while i < 8 {
+    for i in 0..8 {
         let d = digit(line[i]);
         if d == 16 {
             return usize::MAX;
         }
         value = (value << 4) | d;
-        i += 1;
     }
     if line[8] != b'\n' {
         return usize::MAX;
@@ -42,60 +43,63 @@ fn length(line: &[u8; 9]) -> usize {
     value
 }
 
-fn cannot_stand() -> bool {
-    io::write_all(STDERR_FILENO, b"replay: an item cannot stand\n");
-    false
+fn cannot_stand(rt: &impl Eprint) -> Result<bool> {
+    eprintln!(rt; "replay: an item cannot stand")?;
+    Ok(false)
 }
 
-// Writes an answer as an item, and says whether it could.
-fn is_written(answer: &[u8]) -> bool {
+// Writes an answer as an item.
+fn write_item(rt: &impl Print, answer: &[u8]) -> io::Result<()> {
     let mut line = [b'\n'; 9];
     put_hex(&mut line, 0, 8, answer.len() as u64);
-    if io::write_all(STDOUT_FILENO, &line) {
-        if io::write_all(STDOUT_FILENO, answer) {
-            if io::write_all(STDOUT_FILENO, b"\n") {
-                return true;
-            }
-        }
-    }
-    os::fail(b"replay: standard output");
-    false
+    say(rt, &line)?;
+    say(rt, answer)?;
+    say(rt, b"\n")
 }
 
-fn answer(job: &[u8]) -> bool {
+fn answer(rt: &impl Print, job: &[u8]) -> Result<()> {
     let mut out = [0u8; 2959];
     let r = run_job(job, &mut out);
-    is_written(&out[..r])
+    write_item(rt, &out[..r]).context("replay: standard output")
 }
 
 // Reads the k bytes of an item and its LF into the text, and answers it.
-fn answer_rest(text: &mut [u8], k: usize) -> bool {
+fn answer_rest(
+    rt: &(impl Print + Eprint),
+    input: &mut impl Read,
+    text: &mut [u8],
+    k: usize,
+) -> Result<bool> {
     if k >= text.len() {
-        return cannot_stand();
+        return cannot_stand(rt);
     }
-    if io::read_full(STDIN_FILENO, &mut text[..k + 1]) <= k {
-        return cannot_stand();
+    if read_full(input, &mut text[..k + 1]).context("replay: standard input")? <= k {
+        return cannot_stand(rt);
     }
     if text[k] != b'\n' {
-        return cannot_stand();
+        return cannot_stand(rt);
     }
-    answer(&text[..k])
+    answer(rt, &text[..k])?;
+    Ok(true)
 }
 
 // Answers one item, and says whether to go on.
-fn answer_next() -> bool {
+fn answer_next(rt: &(impl Print + Eprint), input: &mut impl Read) -> Result<bool> {
     let mut line = [0u8; 9];
-    if io::read_full(STDIN_FILENO, &mut line) == 0 {
-        return false;
+    if read_full(input, &mut line).context("replay: standard input")? == 0 {
+        return Ok(false);
     }
     let mut text = [0u8; 131072];
-    answer_rest(&mut text, length(&line))
+    answer_rest(rt, input, &mut text, length(&line))
 }
 
 // A proved loop has to end, and nothing says that the input does.
-fn main() {
-    let mut turns = u64::MAX;
-    while turns > 0 && answer_next() {
-        turns -= 1;
+fn main(rt: HostRuntime) -> Result<()> {
+    let mut input = rt.stdin();
+    for _ in 0..u64::MAX {
+        if !answer_next(&rt, &mut input)? {
+            break;
+        }
     }
+    Ok(())
 }

@@ -9,28 +9,27 @@ mod sums;
 
 use analyse::analyse;
 use answers::number;
-use libc::{STDIN_FILENO, STDOUT_FILENO};
 use lines::put_hex;
-use lists::numbers;
+use lists::{numbers, read_full, say};
 use statement::Outcome;
+use std::io;
 use std::num::wrapping_add_usize;
 use sums::{sum, sum_updates};
 use update::none;
 
 // Each number in 16 digits, one space apart.
-fn print_line(words: &[u64; 16]) {
+fn print_line(rt: &impl Print, words: &[u64; 16]) -> io::Result<()> {
     let mut out = [b' '; 272];
-    let mut k: usize = 0;
-    while k < 16 {
+    for k in 0..16 {
         put_hex(&mut out, 17 * k, 16, words[k]);
-        k += 1;
     }
     out[271] = b'\n';
-    io::write_all(STDOUT_FILENO, &out);
+    say(rt, &out)
 }
 
 // The number and the counts, and then the sum of each list; that of the updates is given.
 fn print(
+    rt: &impl Print,
     x: Outcome,
     permutation: &[usize],
     firsts: &[usize],
@@ -40,7 +39,7 @@ fn print(
     top: &[usize],
     rows: &[usize],
     updates: u64,
-) {
+) -> io::Result<()> {
     let a = x.answer;
     let r = x.record;
     let ends = wrapping_add_usize(r.supernodes, 1);
@@ -62,7 +61,7 @@ fn print(
         sum(tasks, wrapping_add_usize(r.tasks, r.tasks)),
         sum(top, r.top),
     ];
-    print_line(&words);
+    print_line(rt, &words)
 }
 
 // How many updates there are, or `most` where there are more.
@@ -78,6 +77,7 @@ fn count(x: Outcome, most: usize) -> usize
 
 // Analyses a matrix, in lent areas and as many updates as every matrix of the list needs.
 fn answer_in(
+    rt: &impl Print,
     n: usize,
     input_starts: &[usize],
     input_rows: &[usize],
@@ -90,7 +90,7 @@ fn answer_in(
     top: &mut [usize],
     words: &mut [usize],
     rows: &mut [usize],
-) {
+) -> io::Result<()> {
     let u = none();
     let mut updates = [u; 65536];
     let x = analyse(
@@ -111,11 +111,28 @@ fn answer_in(
     );
     let c = count(x, 65536);
     let s = sum_updates(&updates, c);
-    print(x, permutation, firsts, starts, groups, tasks, top, rows, s);
+    print(
+        rt,
+        x,
+        permutation,
+        firsts,
+        starts,
+        groups,
+        tasks,
+        top,
+        rows,
+        s,
+    )
 }
 
 // The same in areas that are long enough for every matrix of the list.
-fn answer(n: usize, input_starts: &[usize], input_rows: &[usize], input_values: &[f64]) {
+fn answer(
+    rt: &impl Print,
+    n: usize,
+    input_starts: &[usize],
+    input_rows: &[usize],
+    input_values: &[f64],
+) -> io::Result<()> {
     let mut permutation = [0; 4096];
     let mut firsts = [0; 4096];
     let mut starts = [0; 4096];
@@ -125,6 +142,7 @@ fn answer(n: usize, input_starts: &[usize], input_rows: &[usize], input_values: 
     let mut words = [0; 65536];
     let mut rows = [0; 65536];
     answer_in(
+        rt,
         n,
         input_starts,
         input_rows,
@@ -137,47 +155,48 @@ fn answer(n: usize, input_starts: &[usize], input_rows: &[usize], input_values: 
         &mut top,
         &mut words,
         &mut rows,
-    );
+    )
 }
 
 // Whether the numbers of a line are a matrix with no more entries than the values; if so it is answered.
-fn is_answered(line: &[usize], values: &[f64]) -> bool {
+fn is_answered(rt: &impl Print, line: &[usize], values: &[f64]) -> io::Result<bool> {
     if line.len() < 2 {
-        return false;
+        return Ok(false);
     }
     let n = line[0];
     let a = line[1];
     if n > line.len() {
-        return false;
+        return Ok(false);
     }
     if a > values.len() {
-        return false;
+        return Ok(false);
     }
     let m = n + 3;
     if line.len() != m + a {
-        return false;
+        return Ok(false);
     }
-    answer(n, &line[2..m], &line[m..], &values[0..a]);
-    true
+    answer(rt, n, &line[2..m], &line[m..], &values[0..a])?;
+    Ok(true)
 }
 
 // Answers each line, up to the first that is no matrix.
-fn answer_all(text: &[u8]) {
+fn answer_all(rt: &impl Print, text: &[u8]) -> io::Result<()> {
     let values = [0.0; 8192];
     let mut list = [0; 8192];
     let mut at = 0;
     while at < text.len() {
         let l = numbers(text, at, &mut list);
         let count = l.count;
-        if !is_answered(&list[..count], &values) {
-            return;
+        if !is_answered(rt, &list[..count], &values)? {
+            break;
         }
         at = l.end;
     }
+    Ok(())
 }
 
-fn main() {
+fn main(rt: HostRuntime) -> io::Result<()> {
     let mut text = [0u8; 131072];
-    let n = io::read_full(STDIN_FILENO, &mut text);
-    answer_all(&text[..n]);
+    let n = read_full(&mut rt.stdin(), &mut text)?;
+    answer_all(&rt, &text[..n])
 }

@@ -14,10 +14,8 @@ fn counted(h: u64, x: usize) -> u64 {
 // Of the first m words, or of all where there are fewer.
 pub fn sum(list: &[usize], m: usize) -> u64 {
     let mut h = 0;
-    let mut i = 0;
-    while i < m && i < list.len() {
-        h = counted(h, list[i]);
-        i += 1;
+    for x in list.iter().take(m) {
+        h = counted(h, *x);
     }
     h
 }
@@ -30,12 +28,9 @@ fn counted_update(h: u64, u: Update) -> u64 {
 pub fn sum_updates(list: &[Update], m: usize) -> u64
     requires { m ≤ length list.now }
 {
-    let mut h: u64 = 0;
-    let mut i: usize = 0;
-    while i < m {
-        let u = update_at(list, i);
-        h = counted_update(h, u);
-        i += 1;
+    let mut h = 0;
+    for i in 0..m {
+        h = counted_update(h, update_at(list, i));
     }
     h
 }

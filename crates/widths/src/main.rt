@@ -8,26 +8,25 @@ ghost use Rattle.std.specs.Prelude.{◌≡◌, ◌<◌, ◌≤◌, true};
 mod line;
 
 use factor::factor;
-use libc::STDIN_FILENO;
 use line::{print, sum};
-use lists::numbers;
+use lists::{numbers, read_full};
 use matrices::{Size, matrix};
 use solve::solve;
 use statement::{Order, Outcome, Stop};
+use std::io;
 use std::num::nearest_u64_to_f64;
 use update::none;
 
 // The right sides: b(i) = i + 1 over all of them, so that no two are the same.
 fn put_sides(b: &mut [f64]) {
-    let mut i: usize = 0;
-    while i < b.len() {
+    for i in 0..b.len() {
         b[i] = nearest_u64_to_f64((i + 1) as u64);
-        i += 1;
     }
 }
 
 // Solves three right sides with what factor left, and prints the line.
 fn solve_and_print(
+    rt: &impl Print,
     x: Outcome,
     permutation: &[usize],
     firsts: &[usize],
@@ -37,7 +36,7 @@ fn solve_and_print(
     words: &mut [usize],
     floats: &mut [f64],
     b: &mut [f64],
-) {
+) -> io::Result<()> {
     let record = x.record;
     put_sides(b);
     let a = solve(
@@ -52,11 +51,12 @@ fn solve_and_print(
         3,
         b,
     );
-    print(x, sum(values, record.entries), a, sum(b, b.len()));
+    print(rt, x, sum(values, record.entries), a, sum(b, b.len()))
 }
 
 // One run, in lent areas and as many updates as every matrix of the list needs.
 fn run_in(
+    rt: &impl Print,
     n: usize,
     input_starts: &[usize],
     input_rows: &[usize],
@@ -75,7 +75,7 @@ fn run_in(
     rows: &mut [usize],
     values: &mut [f64],
     b: &mut [f64],
-) {
+) -> io::Result<()> {
     let u = none();
     let mut updates = [u; 16384];
     let x = factor(
@@ -100,6 +100,7 @@ fn run_in(
         values,
     );
     solve_and_print(
+        rt,
         x,
         permutation,
         firsts,
@@ -109,11 +110,12 @@ fn run_in(
         words,
         floats,
         b,
-    );
+    )
 }
 
 // One run, in areas that are long enough for every matrix of the list.
 fn run(
+    rt: &impl Print,
     n: usize,
     input_starts: &[usize],
     input_rows: &[usize],
@@ -122,7 +124,7 @@ fn run(
     list: &[usize],
     stop: Stop,
     b: &mut [f64],
-) {
+) -> io::Result<()> {
     let mut permutation = [0; 512];
     let mut firsts = [0; 512];
     let mut starts = [0; 512];
@@ -134,6 +136,7 @@ fn run(
     let mut rows = [0; 16384];
     let mut values = [0.0; 16384];
     run_in(
+        rt,
         n,
         input_starts,
         input_rows,
@@ -152,7 +155,7 @@ fn run(
         &mut rows,
         &mut values,
         b,
-    );
+    )
 }
 
 fn order_of(kind: usize) -> Order {
@@ -189,18 +192,26 @@ fn lendable(n: usize, a: usize, starts: usize, rows: usize, values: usize, line:
 }
 
 // Runs the matrix as a line of the kinds 3 and 4 says: the kind, where to stop, the list.
-fn run_line(line: &[usize], size: Size, starts: &[usize], rows: &[usize], values: &[f64]) {
+fn run_line(
+    rt: &impl Print,
+    line: &[usize],
+    size: Size,
+    starts: &[usize],
+    rows: &[usize],
+    values: &[f64],
+) -> io::Result<()> {
     let mut b = [0.0; 1536];
     let n = size.n;
     let a = size.a;
     if !lendable(n, a, starts.len(), rows.len(), values.len(), line.len()) {
-        return;
+        return Ok(());
     }
     let kind = line[0];
     if kind < 3 {
-        return;
+        return Ok(());
     }
     run(
+        rt,
         n,
         &starts[0..n + 1],
         &rows[0..a],
@@ -209,11 +220,11 @@ fn run_line(line: &[usize], size: Size, starts: &[usize], rows: &[usize], values
         &line[2..],
         stop_of(line[1]),
         &mut b[..3 * n],
-    );
+    )
 }
 
 // Takes each line in its turn.
-fn answer_all(text: &[u8]) {
+fn answer_all(rt: &impl Print, text: &[u8]) -> io::Result<()> {
     let mut line = [0; 4096];
     let mut starts = [0; 512];
     let mut rows = [0; 16384];
@@ -224,13 +235,14 @@ fn answer_all(text: &[u8]) {
         let l = numbers(text, at, &mut line);
         let count = l.count;
         size = matrix(&line[..count], size, &mut starts, &mut rows, &mut values);
-        run_line(&line[..count], size, &starts, &rows, &values);
+        run_line(rt, &line[..count], size, &starts, &rows, &values)?;
         at = l.end;
     }
+    Ok(())
 }
 
-fn main() {
+fn main(rt: HostRuntime) -> io::Result<()> {
     let mut text = [0u8; 393216];
-    let n = io::read_full(STDIN_FILENO, &mut text);
-    answer_all(&text[..n]);
+    let n = read_full(&mut rt.stdin(), &mut text)?;
+    answer_all(&rt, &text[..n])
 }

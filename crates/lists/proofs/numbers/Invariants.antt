@@ -1,7 +1,5 @@
 -- `lists::numbers` meets its contract: the place stays in the text, and each number gets it further. Assumes nothing.
-use mathlib.Core.Path.{◌≡◌}
-use Prim.Native.Nat.{◌-◌, ◌≤◌}
-use lib.ListN.{length}
+use Rattle.std.proofs.Common.{◌≡◌, ◌-◌, ◌≤◌, length}
 use Rattle.lists.proofs.numbers.Given as goal
 
 abbrev pub invariant-loop-i : goal.invariant-loop-i

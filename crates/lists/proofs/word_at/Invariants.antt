@@ -1,6 +1,5 @@
 -- `lists::word_at` meets its contract: no digit is taken with which the number might not fit. Assumes nothing.
-use Prim.Native.Nat.{◌-◌, ◌≤◌}
-use lib.ListN.{length}
+use Rattle.std.proofs.Common.{◌-◌, ◌≤◌, length}
 use Rattle.lists.proofs.word_at.Given as goal
 
 abbrev pub invariant-loop-i : goal.invariant-loop-i

@@ -1,9 +1,0 @@
--- `damaged::line::zero_floats` is safe and ends. Assumes nothing.
-use Rattle.std.proofs.Common.{◌-◌, ◌≤◌, length}
-use Rattle.damaged.proofs.line.zero_floats.Given as goal
-
-abbrev pub invariant-loop-i : goal.invariant-loop-i
-invariant-loop-i l = l.i ≤ length l.s
-
-abbrev pub decreases-loop-i : goal.decreases-loop-i
-decreases-loop-i l = length l.s - l.i
