@@ -3,7 +3,7 @@
 #   bench/run.sh SOURCE [TURNS]
 # SOURCE: the folder with the Rust's cholesky.rs (one file whose name has 'cholesky.rs' in it). TURNS: how often each is timed, 31 if
 # not given; or 'growth': how much memory is lent, and nothing is timed. Needs rt, rustc and python3; a C compiler, if there is one, tries the
-# header too, and with it CSparse and CHOLMOD (libsuitesparse-dev) are timed beside. All but rt's own target/ is made in a temporary
+# header too, and with it CSparse and CHOLMOD (libsuitesparse-dev) are timed beside. All but rt's own out/ folders is made in a temporary
 # folder, which is removed.
 set -eu
 if [ $# -lt 1 ] || [ $# -gt 2 ]; then
@@ -29,8 +29,8 @@ trap 'rm -rf "$build"' EXIT
 trap 'exit 1' HUP INT TERM
 
 cd "$here"
-rt staticlib exports > "$build/log" 2>&1 || { cat "$build/log" >&2; exit 1; }
-cp target/staticlib/libexports.a bindings/nosebagged.rs bindings/compare.rs bench/engine.rs bench/speed.rs bench/peers.c "$build"
+(cd crates/exports && rt lib) > "$build/log" 2>&1 || { cat "$build/log" >&2; exit 1; }
+cp crates/exports/out/libexports.a bindings/nosebagged.rs bindings/compare.rs bench/engine.rs bench/speed.rs bench/peers.c "$build"
 python3 bench/baseline.py "$file" "$build/cholesky.rs"
 if command -v cc > /dev/null; then
     cc -Wall -Wextra -std=c99 -I bindings -o "$build/check" bindings/check.c "$build/libexports.a"

@@ -1,5 +1,5 @@
-/* Nosebagged: sparse Cholesky, A = L L^T, and the solution of A x = b. The static library is made by `rt staticlib exports`
- * (target/staticlib/libexports.a, for x86-64).
+/* Nosebagged: sparse Cholesky, A = L L^T, and the solution of A x = b. The static library is made by `rt lib` in crates/exports
+ * (crates/exports/out/libexports.a, for x86-64).
  *
  * All memory is lent by the caller. Each slice is a pointer and a count. A call ends with an answer for every content of the
  * slices and every number; what C cannot promise, the caller must:

@@ -1,4 +1,4 @@
-use Rattle.std.proofs.Common.{◌≡◌, arith, add-one, ◌-◌}
+use Rattle.std.proofs.Common.{◌≡◌, arith, add-one}
 use Rattle.run.proofs.Fetching.{brought_none, keeps_asked, brought_more}
 use Rattle.run.proofs.fetch.Goals as goal
 

@@ -1,4 +1,4 @@
-use Rattle.std.proofs.Common.{◌≡◌, arith, add-one}
+use Rattle.std.proofs.Common.{arith, add-one}
 use Rattle.run.proofs.Runs.{going_none, name_asked, group_asked, fetch_asked, turn_asked, one_more, ended}
 use Rattle.run.proofs.run.Goals as goal
 
