@@ -139,6 +139,8 @@ def tail_of(body):
 def halves(expr):
     """The two parts of a pair in brackets, or None."""
     e = expr.strip()
+    if e.startswith("("):
+        e = re.sub(r",\s*\)$", ")", e)
     if not e.startswith("("):
         return None
     depth, comma = 0, None
@@ -188,6 +190,15 @@ class Fn:
         self.left = []
         self.parent = {p[0]: p for p in info["places"]}
 
+    def arms(self, place):
+        out = []
+        while place is not None:
+            p = self.parent[place]
+            if p[2][1] and p[2][1].startswith("in-"):
+                out.append(p[2][1])
+            place = p[1]
+        return out
+
     def steps(self, place):
         """Old step names to new ones, on the way to a place; and the clauses of each step."""
         table, clauses = {}, {}
@@ -236,9 +247,26 @@ class Fn:
                     if x == "before":
                         k += 1
                         continue
-                    if x == "requires":
+                    if x in ("requires", "pre"):
                         out += ".requires"
                         state = ("clauses", pre["fields"] if pre else None)
+                    elif norm(x).startswith("enum_told") or (parts[k + 1:k + 3] == ["given", "1"] and self.arms(place)):
+                        arms = self.arms(place)[::-1]
+                        d = re.search(r"(\d*)$", x).group(1) if norm(x).startswith("enum_told") else ""
+                        if d.isdigit() and int(d) <= len(arms):
+                            arms = arms[int(d) - 1:]
+                        elif not norm(x).startswith("enum_told"):
+                            arms = arms[::-1]
+                        if arms and k + 1 == len(parts):
+                            out += "." + arms[0]
+                            state = ("told",)
+                        elif arms:
+                            out += "." + arms[0] + ".is"
+                            k += 2 if parts[k + 2:k + 3] == ["1"] else 1
+                            state = ("done",)
+                        else:
+                            self.left.append("enum_told")
+                            out += "." + x
                     elif norm(x) in table or (norm(x).endswith("2") and norm(x)[:-1] in table):
                         o = norm(x) if norm(x) in table else norm(x)[:-1]
                         out += "." + table[o]
@@ -264,8 +292,12 @@ class Fn:
                         out += ".auto" if x == "auto" else ".new"
                         state = ("clauses", callee[state[1]] + ["the-end"])
                     else:
-                        out += "." + norm(x)
+                        out += "." + (x if x.startswith("not-") else norm(x))
                         state = ("done",)
+                elif state[0] == "told":
+                    out += ".is"
+                    k += 1 if parts[k + 1:k + 2] == ["1"] else 0
+                    state = ("done",)
                 elif state[0] == "word":
                     out += "." + norm(x)
                     state = ("done",)
@@ -331,6 +363,28 @@ def turn(crate, fpath, info):
         return f"{fpath}: a walk, left"
     fn = Fn(crate, fpath, info)
     dotted = fpath.replace("/", ".")
+    text = re.sub(rf"not[-_](true|false) _ \(({WORD}(?:\.{WORD})*\.(?:true|false))\)", r"\2", text)
+    text = re.sub(rf"not[-_](true|false) _ ({WORD}(?:\.{WORD})*\.(?:true|false))", r"\2", text)
+    text = re.sub(rf"accepted_first \(rw (\([^()]*\)|\S+) at ({WORD}(?:\.{WORD})*)\.keys2\)", r"\2.not-Accepted \1", text)
+    text = re.sub(r"(?<=[\w')-])\.inv(?![\w-])", ".invariant", text)
+    text = re.sub(r"(?<=[\w')-])\.good(?![\w-])", ".well_formed", text)
+    text = re.sub(r"(?<=[\w')-])\.kept(?=\.[01])", ".auto", text)
+    text = re.sub(r"((?:if\d*|if\d*'|loop-test)\.)taken(?![\w-])", r"\1true", text)
+    text = re.sub(r"((?:if\d*|if\d*'|loop-test)\.)left(?![\w-])", r"\1false", text)
+    # a function from a place back to an earlier one: what stood there can be named where one stands
+    back = set()
+    while True:
+        m = re.search(rf"^(?:abbrev |pub )*({WORD}) : [^\n]*→[^\n]*\n\1 c = (?:\(?(?:{'|'.join(map(re.escape, back)) or '!'}) )*c(?:\.before|\))*\n", text, re.M)
+        if not m or "tie." not in m.group(0).split("\n")[0]:
+            break
+        back.add(m.group(1))
+        text = text[:m.start()] + text[m.end():]
+        for _ in range(8):
+            new = re.sub(rf"\({re.escape(m.group(1))} ({WORD}(?:\.before)*)\)((?:\.before)*)", lambda k: k.group(1).split(".")[0], text)
+            new = re.sub(rf"(?<![^\s(){{}}\[\];,]){re.escape(m.group(1))} ({WORD}?)((?:\.before)+|(?![^\s(){{}}\[\];,.]))", lambda k: k.group(1).split(".")[0], new)
+            if new == text:
+                break
+            text = new
     head, uses, helpers, answers, invs = [], [], [], [], []
     for b in blocks(text):
         first = [l for l in b.split("\n") if not l.startswith("--")][0]
@@ -397,13 +451,13 @@ def turn(crate, fpath, info):
     withs = []
     for h in list(helpers):
         hl = "\n".join(l for l in h.split("\n") if not l.startswith("--"))
-        m = re.match(rf"(?:pub )?({WORD}) : \(c : tie\.[^)]*\) →(.*?)\n((?:unfolding [^\n]*\n)?)\1 c((?: \S+)*?) =(.*)$", hl, re.S)
+        m = re.match(rf"(?:pub )?({WORD}) : \(c : tie\.[^)]*\)((?: \([^)]*\))*) →(.*?)\n((?:unfolding [^\n]*\n)?)\1 c((?: \S+)*?) =(.*)$", hl, re.S)
         if m:
-            params = m.group(4).strip()
-            e = (f"λ {params}. " if params else "") + m.group(5).strip()
-            withs.append((m.group(1), m.group(2).strip(), e))
-            if m.group(3):
-                fn.left.append(f"helper {m.group(1)} {m.group(3).strip()}")
+            params = m.group(5).strip()
+            e = (f"λ {params}. " if params else "") + m.group(6).strip()
+            withs.append((m.group(1), (m.group(2).strip() + " → " if m.group(2) else "") + m.group(3).strip(), e))
+            if m.group(4):
+                fn.left.append(f"helper {m.group(1)} {m.group(4).strip()}")
             helpers.remove(h)
 
     def lets_for(body):
@@ -450,7 +504,9 @@ def turn(crate, fpath, info):
         body = fn.paths(body, place if place in fn.parent else None)
         for h in reversed(lets_for(body)):
             body = h + body
+        same = {"c"} | {m2.group(1) for m2 in re.finditer(rf"\blet\s+({WORD})\s+=\s+c(?:\.before)*\s+in\b", body)}
         for h, _, _ in withs:
+            body = re.sub(rf"(?<![^\s(){{}}\[\];,]){re.escape(h)} (?:{'|'.join(map(re.escape, same))})(?:\.before)*(?![.\w'])", h, body)
             body = re.sub(rf"(?<![^\s(){{}}\[\];,])\(?{re.escape(h)} c(?:\.before)*\)?(?![.\w])" if False else rf"(?<![^\s(){{}}\[\];,]){re.escape(h)} c(?:\.before)*(?![.\w])", h, body)
         if new in info["asked"] or old in info["asked"]:
             body = as_record(body, info["asked"].get(new) or info["asked"].get(old), fn.left)
@@ -466,7 +522,8 @@ def turn(crate, fpath, info):
             extra.update(re.findall(r"(?:then|else)-[^ ]+(?= w ↦)", body))
         if re.search(r"\.taken\b|\.left\b", body):
             fn.left.append(f"look at {new}")
-        ans_text.append("\n".join(comments + [f"pub {new} : goal.{new}"]) + f"\n{unf}{new} c ={body.rstrip()}")
+        rest_of = " ".join(x for x in m.group(2).split() if x != "κs")
+        ans_text.append("\n".join(comments + [f"pub {new} : goal.{new}"]) + f"\n{unf}{new} c{' ' + rest_of if rest_of else ''} ={body.rstrip()}")
     note = [l for l in head if l.startswith("--")]
     inv_all = "\n\n".join(inv_text)
     # helpers that an invariant cites go with it

@@ -3,7 +3,7 @@ use Rattle.std.specs.Prelude.{[], length}
 use Rattle.statement.specs.Input.{matrix}
 use Rattle.statement.specs.Calls.{Analyses}
 use Rattle.analyse.specs.contracts.analyse as f
-use Rattle.analyse.proofs.analyse.Symbol.{routine}
+use Rattle.analyse.proofs.analyse.Symbol.{code, name}
 use Rattle.pinned.specs.Contract.{Promise, Pinned}
 
 -- areas 8 and 11 are not lent
@@ -45,4 +45,4 @@ promise κs entry x exit =
     })
 
 abbrev pub Claim : Type 2
-Claim = Pinned f.ended (λ M 𝓤 𝓛 mem run. f.spec 𝓛 mem run) routine promise
+Claim = Pinned f.ended (λ M 𝓤 𝓛 mem run. f.spec 𝓛 mem run) name code promise

@@ -3,7 +3,7 @@ use Rattle.std.specs.Prelude.{length}
 use Rattle.statement.specs.Input.{matrix}
 use Rattle.statement.specs.Calls.{Factors}
 use Rattle.factor.specs.contracts.factor as f
-use Rattle.factor.proofs.factor.Symbol.{routine}
+use Rattle.factor.proofs.factor.Symbol.{code, name}
 use Rattle.pinned.specs.Contract.{Promise, Pinned}
 
 abbrev pub promise : Promise f.ended
@@ -47,4 +47,4 @@ promise κs entry x exit =
     })
 
 abbrev pub Claim : Type 2
-Claim = Pinned f.ended (λ M 𝓤 𝓛 mem run. f.spec 𝓛 mem run) routine promise
+Claim = Pinned f.ended (λ M 𝓤 𝓛 mem run. f.spec 𝓛 mem run) name code promise

@@ -2,7 +2,7 @@
 use Rattle.std.specs.Prelude.{length}
 use Rattle.statement.specs.Solve.{Solves}
 use Rattle.solve.specs.contracts.solve as f
-use Rattle.solve.proofs.solve.Symbol.{routine}
+use Rattle.solve.proofs.solve.Symbol.{code, name}
 use Rattle.pinned.specs.Contract.{Promise, Pinned}
 
 abbrev pub promise : Promise f.ended
@@ -19,4 +19,4 @@ promise κs entry x exit =
     (record { answer = x; b = b'.now; words = words'.now; floats = floats'.now })
 
 abbrev pub Claim : Type 2
-Claim = Pinned f.ended (λ M 𝓤 𝓛 mem run. f.spec 𝓛 mem run) routine promise
+Claim = Pinned f.ended (λ M 𝓤 𝓛 mem run. f.spec 𝓛 mem run) name code promise

@@ -42,10 +42,10 @@ module _ (n : ℕ) (S B : Shape) (v w : List Float) (rows : (c : ℕ) → c < n 
   forward_same x zero h = refl
   forward_same x (suc c) h = rw (forward_same x c (omega arith), rows c h, values c h)
 
-  backward_same : (x : List Float) (c : ℕ) → c ≤ n → backward B w x c ≡ backward S v x c
+  backward_same : (c : ℕ) → c ≤ n → (x : List Float) → backward B w x c ≡ backward S v x c
   unfolding backward backward_at
-  backward_same x zero h = refl
-  backward_same x (suc c) h = rw (rows c h, values c h) (backward_same _ c (omega arith))
+  backward_same zero h x = refl
+  backward_same (suc c) h x = rw (rows c h, values c h) (backward_same c (omega arith) _)
 
   pub solution_same : (p q : List ℕ) (b : List Float) → ((a : ℕ) → a < n → get_or p a 0 ≡ get_or q a 0) → ((k : ℕ) → k < n → place k p ≡ place k q) → solution n p B w b ≡ solution n q S v b
   unfolding solution
@@ -53,7 +53,7 @@ module _ (n : ℕ) (S B : Shape) (v w : List Float) (rows : (c : ℕ) → c < n 
       let i : List Float = list (λ a. get_or b (get_or q a 0) +0) n in
       let e : list (λ a. get_or b (get_or p a 0) +0) n ≡ i = list_same (λ a. get_or b (get_or p a 0) +0) (λ a. get_or b (get_or q a 0) +0) n (λ a l. ap (λ z. get_or b z +0) (h a l)) in
       let x = backward S v (forward S v i n) n in
-      let f : backward B w (forward B w (list (λ a. get_or b (get_or p a 0) +0) n) n) n ≡ x = ap (λ z. backward B w (forward B w z n) n) e ∙ ap (λ z. backward B w z n) (forward_same i n (le_refl n)) ∙ backward_same (forward S v i n) n (le_refl n) in
+      let f : backward B w (forward B w (list (λ a. get_or b (get_or p a 0) +0) n) n) n ≡ x = ap (λ z. backward B w (forward B w z n) n) e ∙ ap (λ z. backward B w z n) (forward_same i n (le_refl n)) ∙ backward_same n (le_refl n) (forward S v i n) in
       ap (λ z. list (λ k. get_or z (place k p) +0) n) f ∙ list_same (λ k. get_or x (place k p) +0) (λ k. get_or x (place k q) +0) n (λ a l. ap (λ z. get_or x z +0) (k a l))
 
 -- ---- a part over zeros

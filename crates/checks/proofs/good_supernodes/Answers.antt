@@ -2,7 +2,6 @@ use mathlib.Core.Path.{refl, sym, ◌∙◌}
 use Prim.Native.Nat.{◌+◌, ◌-◌}
 use native.Mathlib.Numerals.{add-one}
 use native.Mathlib.Omega.{arith}
-use borrow.Author.Tests.{not-true, not-false}
 use Rattle.statement.specs.Solve.{good_supernode}
 use Rattle.laws.proofs.Every.{tested_start, tested_more, tested_stop, tested_over}
 use Rattle.laws.proofs.Walked.{node}
@@ -74,7 +73,7 @@ returns-then-not-good_supernode c =
     let good-supernode' = c.good_supernode in
     let pre' = c.requires in
     let if1' = c.if-not-good_supernode in
-    tested_stop loop'.invariant (omega arith) (sym (good-supernode'.ensures _ loop'.k (node _ (pre') loop'.k (omega arith)).part refl (rw (add-one loop'.k)) refl) ∙ not-true _ if1'.true)
+    tested_stop loop'.invariant (omega arith) (sym (good-supernode'.ensures _ loop'.k (node _ (pre') loop'.k (omega arith)).part refl (rw (add-one loop'.k)) refl) ∙ if1'.true)
 
 pub loop-k-preserved : goal.loop-k-preserved
 loop-k-preserved c =
@@ -82,7 +81,7 @@ loop-k-preserved c =
     let good-supernode' = c.good_supernode in
     let pre' = c.requires in
     let if1' = c.if-not-good_supernode in
-    tested_more loop'.invariant (omega arith) (sym (good-supernode'.ensures _ loop'.k (node _ (pre') loop'.k (omega arith)).part refl (rw (add-one loop'.k)) refl) ∙ not-false _ if1'.false)
+    tested_more loop'.invariant (omega arith) (sym (good-supernode'.ensures _ loop'.k (node _ (pre') loop'.k (omega arith)).part refl (rw (add-one loop'.k)) refl) ∙ if1'.false)
 
 pub returns : goal.returns
 returns c =

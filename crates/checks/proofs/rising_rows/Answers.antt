@@ -3,7 +3,7 @@ use mathlib.Core.Path.{◌≡◌, sym, ◌∙◌}
 use Prim.Native.Nat.{◌-◌}
 use native.Mathlib.Omega.{arith}
 use lib.ListN.{length}
-use borrow.Author.Tests.{eq-eqb, ne_eqb, not-true, not-false}
+use borrow.Author.Tests.{eq-eqb, ne_eqb}
 use Rattle.statement.specs.Solve.{rising_rows}
 use Rattle.laws.proofs.Checked.{framed}
 use Rattle.laws.proofs.Taken.{true_T}
@@ -47,7 +47,7 @@ returns-then-not-none_falling c =
     let none-falling' = c.none_falling in
     let if3' = c.if-not-none_falling in
     let e : length args'.starts.now - 1 ≡ args'.«record».supernodes = omega (arith, pre'.fitted.starts) in
-    rw (eq-eqb _ _ if1'.false, eq-eqb _ _ if2'.false, sym (rw e at none-falling'.ensures) ∙ not-true _ if3'.true)
+    rw (eq-eqb _ _ if1'.false, eq-eqb _ _ if2'.false, sym (rw e at none-falling'.ensures) ∙ if3'.true)
 
 pub good_supernodes-requires : goal.good_supernodes-requires
 good_supernodes-requires c =
@@ -58,7 +58,7 @@ good_supernodes-requires c =
     let none-falling' = c.none_falling in
     let if3' = c.if-not-none_falling in
     let e : length args'.starts.now - 1 ≡ args'.«record».supernodes = omega (arith, pre'.fitted.starts) in
-    framed _ _ pre'.fitted (true_T pre'.rows_value) (rw (eq-eqb _ _ if1'.false, eq-eqb _ _ if2'.false, sym (rw e at none-falling'.ensures) ∙ not-false _ if3'.false) tt)
+    framed _ _ pre'.fitted (true_T pre'.rows_value) (rw (eq-eqb _ _ if1'.false, eq-eqb _ _ if2'.false, sym (rw e at none-falling'.ensures) ∙ if3'.false) tt)
 
 pub returns : goal.returns
 unfolding rising_rows
@@ -72,4 +72,4 @@ returns c =
     let good-supernodes' = c.good_supernodes in
     let e : length args'.starts.now - 1 ≡ args'.«record».supernodes = omega (arith, pre'.fitted.starts) in
     let k : length args'.firsts.now - 1 ≡ args'.«record».supernodes = omega (arith, pre'.fitted.firsts) in
-    rw (eq-eqb _ _ if1'.false, eq-eqb _ _ if2'.false, sym (rw e at none-falling'.ensures) ∙ not-false _ if3'.false) (rw k at good-supernodes'.ensures)
+    rw (eq-eqb _ _ if1'.false, eq-eqb _ _ if2'.false, sym (rw e at none-falling'.ensures) ∙ if3'.false) (rw k at good-supernodes'.ensures)

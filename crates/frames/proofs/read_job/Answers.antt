@@ -11,11 +11,11 @@ returns-in-Whole c =
     let a = c.args in
     let k = c.clear_all.auto in
     let t = c.scan-r in
-    read_whole _ a.starts.now a.rows.now a.values.now a.right.now _ _ _ _ _ t.ensures (t.auto.starts ∙ k.starts) (t.auto.rows ∙ k.rows) (t.auto.values ∙ k.values) (t.auto.right ∙ k.right) _ _ _ c.r-1.given.1
+    read_whole _ a.starts.now a.rows.now a.values.now a.right.now _ _ _ _ _ t.ensures (t.auto.starts ∙ k.starts) (t.auto.rows ∙ k.rows) (t.auto.values ∙ k.values) (t.auto.right ∙ k.right) _ _ _ c.in-Whole.is
 
 pub returns-in-Fault : goal.returns-in-Fault
 returns-in-Fault c =
     let a = c.args in
     let k = c.clear_all.auto in
     let t = c.scan-r in
-    read_fault _ a.starts.now a.rows.now a.values.now a.right.now _ _ _ _ _ t.ensures (t.auto.starts ∙ k.starts) (t.auto.rows ∙ k.rows) (t.auto.values ∙ k.values) (t.auto.right ∙ k.right) _ _ _ _ _ c.r-in-Fault-1.given.1 c.clear_all-in-Fault.ensures
+    read_fault _ a.starts.now a.rows.now a.values.now a.right.now _ _ _ _ _ t.ensures (t.auto.starts ∙ k.starts) (t.auto.rows ∙ k.rows) (t.auto.values ∙ k.values) (t.auto.right ∙ k.right) _ _ _ _ _ c.in-Fault.is c.clear_all-in-Fault.ensures

@@ -11,74 +11,60 @@ use Prim.Native.Nat.{◌+◌, ◌-◌}
 use mathlib.Core.Bool.{true}
 use mathlib.Core.Path.{◌≡◌, sym, subst, ◌∙◌}
 use Rattle.frames.proofs.take_stored.Goals as goal
-use Rattle.frames.proofs.take_stored.Goals.{After-fill_part, After-stored_ok, After-struct_known-then-stored_ok-2-1, After-to_float, Start, Then-stored_ok}
-
--- the places that the answers go back to
-abbrev entry : After-stored_ok → Start
-entry c = c.before.before.before.before
-
-abbrev taken : After-struct_known-then-stored_ok-2-1 → Then-stored_ok
-taken c = c.before.before.before
-
-abbrev filled : After-to_float → After-fill_part
-filled c = c.before.before.before
-
-abbrev stores : After-to_float → Then-stored_ok
-stores c = taken (filled c).before.before
 
 pub overflow_sub-column : goal.overflow_sub-column
 overflow_sub-column c =
-    let holds : let a = (entry c.before).args in stored_ok a.p.stage a.p.n a.p.known a.p.count a.column ≡ true = sym c.stored_ok.ensures ∙ c.if-stored_ok.true in
-    let says : let a = (entry c.before).args in Stores a.p.stage a.p.n a.p.known a.p.count a.column = stored_says _ _ _ _ _ (holds) in (says (taken c)).rises
+    let holds : let a = c.args in stored_ok a.p.stage a.p.n a.p.known a.p.count a.column ≡ true = sym c.stored_ok.ensures ∙ c.if-stored_ok.true in
+    let says : let a = c.args in Stores a.p.stage a.p.n a.p.known a.p.count a.column = stored_says _ _ _ _ _ (holds) in (says).rises
 
 pub fill_part-requires : goal.fill_part-requires
 fill_part-requires c =
-    let holds : let a = (entry c.before).args in stored_ok a.p.stage a.p.n a.p.known a.p.count a.column ≡ true = sym c.stored_ok.ensures ∙ c.if-stored_ok.true in
-    let says : let a = (entry c.before).args in Stores a.p.stage a.p.n a.p.known a.p.count a.column = stored_says _ _ _ _ _ (holds) in
-    let u = says (taken c.before) in
-    let b = (entry (taken c.before).before).requires in
+    let holds : let a = c.args in stored_ok a.p.stage a.p.n a.p.known a.p.count a.column ≡ true = sym c.stored_ok.ensures ∙ c.if-stored_ok.true in
+    let says : let a = c.args in Stores a.p.stage a.p.n a.p.known a.p.count a.column = stored_says _ _ _ _ _ (holds) in
+    let u = says in
+    let b = c.requires in
     simp (length-take, length-drop) (omega (arith, u.inside, u.rises, b.0.n, b.1))
 
 pub offset_bounds-rows-count : goal.offset_bounds-rows-count
 offset_bounds-rows-count c =
-    let holds : let a = (entry c.before).args in stored_ok a.p.stage a.p.n a.p.known a.p.count a.column ≡ true = sym c.stored_ok.ensures ∙ c.if-stored_ok.true in
-    let says : let a = (entry c.before).args in Stores a.p.stage a.p.n a.p.known a.p.count a.column = stored_says _ _ _ _ _ (holds) in omega (arith, (says (taken c.before.before.before.before)).room)
+    let holds : let a = c.args in stored_ok a.p.stage a.p.n a.p.known a.p.count a.column ≡ true = sym c.stored_ok.ensures ∙ c.if-stored_ok.true in
+    let says : let a = c.args in Stores a.p.stage a.p.n a.p.known a.p.count a.column = stored_says _ _ _ _ _ (holds) in omega (arith, (says).room)
 
 pub bounds-rows-count : goal.bounds-rows-count
 bounds-rows-count c =
-    let holds : let a = (entry c.before).args in stored_ok a.p.stage a.p.n a.p.known a.p.count a.column ≡ true = sym c.stored_ok.ensures ∙ c.if-stored_ok.true in
-    let says : let a = (entry c.before).args in Stores a.p.stage a.p.n a.p.known a.p.count a.column = stored_says _ _ _ _ _ (holds) in let t = taken c.before.before.before.before in omega (arith, (says t).room, (entry t.before).requires.2)
+    let holds : let a = c.args in stored_ok a.p.stage a.p.n a.p.known a.p.count a.column ≡ true = sym c.stored_ok.ensures ∙ c.if-stored_ok.true in
+    let says : let a = c.args in Stores a.p.stage a.p.n a.p.known a.p.count a.column = stored_says _ _ _ _ _ (holds) in let t = c in omega (arith, (says).room, t.requires.2)
 
 pub offset_bounds-values-count : goal.offset_bounds-values-count
 offset_bounds-values-count c =
-    let holds : let a = (entry c.before).args in stored_ok a.p.stage a.p.n a.p.known a.p.count a.column ≡ true = sym c.stored_ok.ensures ∙ c.if-stored_ok.true in
-    let says : let a = (entry c.before).args in Stores a.p.stage a.p.n a.p.known a.p.count a.column = stored_says _ _ _ _ _ (holds) in omega (arith, (says (stores c)).room)
+    let holds : let a = c.args in stored_ok a.p.stage a.p.n a.p.known a.p.count a.column ≡ true = sym c.stored_ok.ensures ∙ c.if-stored_ok.true in
+    let says : let a = c.args in Stores a.p.stage a.p.n a.p.known a.p.count a.column = stored_says _ _ _ _ _ (holds) in omega (arith, (says).room)
 
 pub bounds-values-count : goal.bounds-values-count
 bounds-values-count c =
-    let holds : let a = (entry c.before).args in stored_ok a.p.stage a.p.n a.p.known a.p.count a.column ≡ true = sym c.stored_ok.ensures ∙ c.if-stored_ok.true in
-    let says : let a = (entry c.before).args in Stores a.p.stage a.p.n a.p.known a.p.count a.column = stored_says _ _ _ _ _ (holds) in omega (arith, (says (stores c)).room, (entry (stores c).before).requires.3)
+    let holds : let a = c.args in stored_ok a.p.stage a.p.n a.p.known a.p.count a.column ≡ true = sym c.stored_ok.ensures ∙ c.if-stored_ok.true in
+    let says : let a = c.args in Stores a.p.stage a.p.n a.p.known a.p.count a.column = stored_says _ _ _ _ _ (holds) in omega (arith, (says).room, c.requires.3)
 
 pub overflow_add-result : goal.overflow_add-result
 overflow_add-result c =
-    let holds : let a = (entry c.before).args in stored_ok a.p.stage a.p.n a.p.known a.p.count a.column ≡ true = sym c.stored_ok.ensures ∙ c.if-stored_ok.true in
-    let says : let a = (entry c.before).args in Stores a.p.stage a.p.n a.p.known a.p.count a.column = stored_says _ _ _ _ _ (holds) in omega (arith, (says (stores c)).room)
+    let holds : let a = c.args in stored_ok a.p.stage a.p.n a.p.known a.p.count a.column ≡ true = sym c.stored_ok.ensures ∙ c.if-stored_ok.true in
+    let says : let a = c.args in Stores a.p.stage a.p.n a.p.known a.p.count a.column = stored_says _ _ _ _ _ (holds) in omega (arith, (says).room)
 
 pub returns-then-stored_ok : goal.returns-then-stored_ok
 returns-then-stored_ok c =
-    let holds : let a = (entry c.before).args in stored_ok a.p.stage a.p.n a.p.known a.p.count a.column ≡ true = sym c.stored_ok.ensures ∙ c.if-stored_ok.true in
-    let says : let a = (entry c.before).args in Stores a.p.stage a.p.n a.p.known a.p.count a.column = stored_says _ _ _ _ _ (holds) in
-    let b = entry (stores c).before in
+    let holds : let a = c.args in stored_ok a.p.stage a.p.n a.p.known a.p.count a.column ≡ true = sym c.stored_ok.ensures ∙ c.if-stored_ok.true in
+    let says : let a = c.args in Stores a.p.stage a.p.n a.p.known a.p.count a.column = stored_says _ _ _ _ _ (holds) in
+    let b = c in
     let a = b.args in
-    let u = says (stores c) in
-    let g = tail_filled a.p.count a.starts.now _ (a.p.known.0 + 1) (a.column.0 - a.p.known.0) (filled c).fill-part.ensures in (
-      record { n = b.pre.0.n; known = omega (arith, u.inside) },
-      λ ri j h. stored_yes a.p a.starts.now a.rows.now a.values.now ri j h a.column a.row a.bits c.to_float.result _ (holds (stores c)) b.pre.0.n b.pre.1 b.pre.2 b.pre.3 g c.to_float.ensures,
+    let u = says in
+    let g = tail_filled a.p.count a.starts.now _ (a.p.known.0 + 1) (a.column.0 - a.p.known.0) c.fill_part.ensures in (
+      record { n = b.requires.0.n; known = omega (arith, u.inside) },
+      λ ri j h. stored_yes a.p a.starts.now a.rows.now a.values.now ri j h a.column a.row a.bits c.to_float.result _ (holds) b.requires.0.n b.requires.1 b.requires.2 b.requires.3 g c.to_float.ensures,
     )
 
 pub returns-else-stored_ok : goal.returns-else-stored_ok
 returns-else-stored_ok c =
-    let a = (entry c.before.before).args in
+    let a = c.args in
     let e = sym c.stored_ok.ensures ∙ c.if-stored_ok.false in
     let f = sym c.at_fault.ensures in (
       subst Small f (record { n = omega arith; known = omega arith }),

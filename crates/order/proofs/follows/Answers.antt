@@ -5,8 +5,8 @@ use Rattle.order.proofs.follows.Goals as goal
 
 pub returns-in-Plain : goal.returns-in-Plain
 unfolding followed
-returns-in-Plain c = sym (ap followed c.enum_told-1.given.1)
+returns-in-Plain c = sym (ap followed c.in-Plain.is)
 
 pub returns-in-Listed : goal.returns-in-Listed
 unfolding followed
-returns-in-Listed c = sym (ap followed c.enum_told-in-Listed-1.given.1)
+returns-in-Listed c = sym (ap followed c.in-Listed.is)

@@ -4,7 +4,7 @@ use Rattle.statement.specs.Calls.{stop_of}
 use Rattle.order.proofs.stop_at.Goals as goal
 
 pub returns-in-End : goal.returns-in-End
-returns-in-End c = sym (ap (stop_of S) c.enum_told-1.given.1 ∙ e)
+returns-in-End c S e = sym (ap (stop_of S) c.in-End.is ∙ e)
 
 pub returns-in-After : goal.returns-in-After
-returns-in-After c = sym (ap (stop_of S) c.stop-1.given.1)
+returns-in-After c S e = sym (ap (stop_of S) c.in-After.is)

@@ -8,18 +8,6 @@ use mir.Syntax.{w64}
 use mir.Val.{Fits}
 use native.Mathlib.Nat.{le_trans}
 use Rattle.products.proofs.by_eights.Goals as goal
-use Rattle.products.proofs.by_eights.Goals.{In-loop-k, Start}
-
--- from a turn back to the start
-abbrev start : In-loop-k → Start
-start c = c.before.before.before.before.before
-
--- no place of a turn wraps, and none is below what is taken off it
-fits : (c : In-loop-k) (s : ℕ) → s + ((start c).args.m - (start c).args.q) ≤ length (start c).args.v.now → Fits w64 (s + ((start c).args.m - c.loop-k.k))
-fits c s h = rise.wide s (start c).args.m c.loop-k.k _ _ h (omega arith) (start c).requires.few
-
-enough : (c : In-loop-k) (s j : ℕ) → j ≤ 8 → j ≤ s + ((start c).args.m - c.loop-k.k)
-enough c s j h = rise.enough s (start c).args.m c.loop-k.k j (omega arith)
 
 pub column_start-requires : goal.column_start-requires
 column_start-requires c = (omega arith, omega arith)
@@ -38,7 +26,7 @@ loop-k-init c =
 
 pub overflow_add-s1 : goal.overflow_add-s1
 overflow_add-s1 c =
-    let turn : let a = (start c).args in
+    let turn : let a = c.args in
     let l = c.loop-k in
     let d = a.m - l.k in
     let s1 = l.src + d - 1 in
@@ -49,17 +37,19 @@ overflow_add-s1 c =
     let s6 = s5 + d - 6 in
     let s7 = s6 + d - 7 in
     let s8 = s7 + d - 8 in
-    rise.Eight a.m l.k a.q (length a.v.now) l.src s1 s2 s3 s4 s5 s6 s7 s8 = let a = (start c).args in
-    let p = (start c).requires in
+    rise.Eight a.m l.k a.q (length a.v.now) l.src s1 s2 s3 s4 s5 s6 s7 s8 = let a = c.args in
+    let p = c.requires in
     let l = c.loop-k in
-    rise.eights a.m l.k a.q a.kw _ l.src _ _ _ _ p.above p.here p.stored l.invariant.1 refl refl refl refl _ _ _ _ c.loop-k-test.true refl refl refl refl in fits c _ (turn).low.in₀
+    rise.eights a.m l.k a.q a.kw _ l.src _ _ _ _ p.above p.here p.stored l.invariant.1 refl refl refl refl _ _ _ _ c.loop-k-test.true refl refl refl refl in
+    let fits : (s : ℕ) → s + (c.args.m - c.args.q) ≤ length c.args.v.now → Fits w64 (s + (c.args.m - c.loop-k.k)) = λ s h. rise.wide s c.args.m c.loop-k.k _ _ h (omega arith) c.requires.few in fits _ (turn).low.in₀
 
 pub overflow_sub-s1 : goal.overflow_sub-s1
-overflow_sub-s1 c = enough c _ 1 (omega arith)
+overflow_sub-s1 c =
+    let enough : (s j : ℕ) → j ≤ 8 → j ≤ s + (c.args.m - c.loop-k.k) = λ s j h. rise.enough s c.args.m c.loop-k.k j (omega arith) in enough _ 1 (omega arith)
 
 pub overflow_add-s2 : goal.overflow_add-s2
 overflow_add-s2 c =
-    let turn : let a = (start c).args in
+    let turn : let a = c.args in
     let l = c.loop-k in
     let d = a.m - l.k in
     let s1 = l.src + d - 1 in
@@ -70,17 +60,19 @@ overflow_add-s2 c =
     let s6 = s5 + d - 6 in
     let s7 = s6 + d - 7 in
     let s8 = s7 + d - 8 in
-    rise.Eight a.m l.k a.q (length a.v.now) l.src s1 s2 s3 s4 s5 s6 s7 s8 = let a = (start c).args in
-    let p = (start c).requires in
+    rise.Eight a.m l.k a.q (length a.v.now) l.src s1 s2 s3 s4 s5 s6 s7 s8 = let a = c.args in
+    let p = c.requires in
     let l = c.loop-k in
-    rise.eights a.m l.k a.q a.kw _ l.src _ _ _ _ p.above p.here p.stored l.invariant.1 refl refl refl refl _ _ _ _ c.loop-k-test.true refl refl refl refl in fits c _ (turn).low.in₁
+    rise.eights a.m l.k a.q a.kw _ l.src _ _ _ _ p.above p.here p.stored l.invariant.1 refl refl refl refl _ _ _ _ c.loop-k-test.true refl refl refl refl in
+    let fits : (s : ℕ) → s + (c.args.m - c.args.q) ≤ length c.args.v.now → Fits w64 (s + (c.args.m - c.loop-k.k)) = λ s h. rise.wide s c.args.m c.loop-k.k _ _ h (omega arith) c.requires.few in fits _ (turn).low.in₁
 
 pub overflow_sub-s2 : goal.overflow_sub-s2
-overflow_sub-s2 c = enough c _ 2 (omega arith)
+overflow_sub-s2 c =
+    let enough : (s j : ℕ) → j ≤ 8 → j ≤ s + (c.args.m - c.loop-k.k) = λ s j h. rise.enough s c.args.m c.loop-k.k j (omega arith) in enough _ 2 (omega arith)
 
 pub overflow_add-s3 : goal.overflow_add-s3
 overflow_add-s3 c =
-    let turn : let a = (start c).args in
+    let turn : let a = c.args in
     let l = c.loop-k in
     let d = a.m - l.k in
     let s1 = l.src + d - 1 in
@@ -91,17 +83,19 @@ overflow_add-s3 c =
     let s6 = s5 + d - 6 in
     let s7 = s6 + d - 7 in
     let s8 = s7 + d - 8 in
-    rise.Eight a.m l.k a.q (length a.v.now) l.src s1 s2 s3 s4 s5 s6 s7 s8 = let a = (start c).args in
-    let p = (start c).requires in
+    rise.Eight a.m l.k a.q (length a.v.now) l.src s1 s2 s3 s4 s5 s6 s7 s8 = let a = c.args in
+    let p = c.requires in
     let l = c.loop-k in
-    rise.eights a.m l.k a.q a.kw _ l.src _ _ _ _ p.above p.here p.stored l.invariant.1 refl refl refl refl _ _ _ _ c.loop-k-test.true refl refl refl refl in fits c _ (turn).low.in₂
+    rise.eights a.m l.k a.q a.kw _ l.src _ _ _ _ p.above p.here p.stored l.invariant.1 refl refl refl refl _ _ _ _ c.loop-k-test.true refl refl refl refl in
+    let fits : (s : ℕ) → s + (c.args.m - c.args.q) ≤ length c.args.v.now → Fits w64 (s + (c.args.m - c.loop-k.k)) = λ s h. rise.wide s c.args.m c.loop-k.k _ _ h (omega arith) c.requires.few in fits _ (turn).low.in₂
 
 pub overflow_sub-s3 : goal.overflow_sub-s3
-overflow_sub-s3 c = enough c _ 3 (omega arith)
+overflow_sub-s3 c =
+    let enough : (s j : ℕ) → j ≤ 8 → j ≤ s + (c.args.m - c.loop-k.k) = λ s j h. rise.enough s c.args.m c.loop-k.k j (omega arith) in enough _ 3 (omega arith)
 
 pub overflow_add-s4 : goal.overflow_add-s4
 overflow_add-s4 c =
-    let turn : let a = (start c).args in
+    let turn : let a = c.args in
     let l = c.loop-k in
     let d = a.m - l.k in
     let s1 = l.src + d - 1 in
@@ -112,17 +106,19 @@ overflow_add-s4 c =
     let s6 = s5 + d - 6 in
     let s7 = s6 + d - 7 in
     let s8 = s7 + d - 8 in
-    rise.Eight a.m l.k a.q (length a.v.now) l.src s1 s2 s3 s4 s5 s6 s7 s8 = let a = (start c).args in
-    let p = (start c).requires in
+    rise.Eight a.m l.k a.q (length a.v.now) l.src s1 s2 s3 s4 s5 s6 s7 s8 = let a = c.args in
+    let p = c.requires in
     let l = c.loop-k in
-    rise.eights a.m l.k a.q a.kw _ l.src _ _ _ _ p.above p.here p.stored l.invariant.1 refl refl refl refl _ _ _ _ c.loop-k-test.true refl refl refl refl in fits c _ (turn).low.in₃
+    rise.eights a.m l.k a.q a.kw _ l.src _ _ _ _ p.above p.here p.stored l.invariant.1 refl refl refl refl _ _ _ _ c.loop-k-test.true refl refl refl refl in
+    let fits : (s : ℕ) → s + (c.args.m - c.args.q) ≤ length c.args.v.now → Fits w64 (s + (c.args.m - c.loop-k.k)) = λ s h. rise.wide s c.args.m c.loop-k.k _ _ h (omega arith) c.requires.few in fits _ (turn).low.in₃
 
 pub overflow_sub-s4 : goal.overflow_sub-s4
-overflow_sub-s4 c = enough c _ 4 (omega arith)
+overflow_sub-s4 c =
+    let enough : (s j : ℕ) → j ≤ 8 → j ≤ s + (c.args.m - c.loop-k.k) = λ s j h. rise.enough s c.args.m c.loop-k.k j (omega arith) in enough _ 4 (omega arith)
 
 pub overflow_add-s5 : goal.overflow_add-s5
 overflow_add-s5 c =
-    let turn : let a = (start c).args in
+    let turn : let a = c.args in
     let l = c.loop-k in
     let d = a.m - l.k in
     let s1 = l.src + d - 1 in
@@ -133,17 +129,19 @@ overflow_add-s5 c =
     let s6 = s5 + d - 6 in
     let s7 = s6 + d - 7 in
     let s8 = s7 + d - 8 in
-    rise.Eight a.m l.k a.q (length a.v.now) l.src s1 s2 s3 s4 s5 s6 s7 s8 = let a = (start c).args in
-    let p = (start c).requires in
+    rise.Eight a.m l.k a.q (length a.v.now) l.src s1 s2 s3 s4 s5 s6 s7 s8 = let a = c.args in
+    let p = c.requires in
     let l = c.loop-k in
-    rise.eights a.m l.k a.q a.kw _ l.src _ _ _ _ p.above p.here p.stored l.invariant.1 refl refl refl refl _ _ _ _ c.loop-k-test.true refl refl refl refl in fits c _ (turn).high.in₀
+    rise.eights a.m l.k a.q a.kw _ l.src _ _ _ _ p.above p.here p.stored l.invariant.1 refl refl refl refl _ _ _ _ c.loop-k-test.true refl refl refl refl in
+    let fits : (s : ℕ) → s + (c.args.m - c.args.q) ≤ length c.args.v.now → Fits w64 (s + (c.args.m - c.loop-k.k)) = λ s h. rise.wide s c.args.m c.loop-k.k _ _ h (omega arith) c.requires.few in fits _ (turn).high.in₀
 
 pub overflow_sub-s5 : goal.overflow_sub-s5
-overflow_sub-s5 c = enough c _ 5 (omega arith)
+overflow_sub-s5 c =
+    let enough : (s j : ℕ) → j ≤ 8 → j ≤ s + (c.args.m - c.loop-k.k) = λ s j h. rise.enough s c.args.m c.loop-k.k j (omega arith) in enough _ 5 (omega arith)
 
 pub overflow_add-s6 : goal.overflow_add-s6
 overflow_add-s6 c =
-    let turn : let a = (start c).args in
+    let turn : let a = c.args in
     let l = c.loop-k in
     let d = a.m - l.k in
     let s1 = l.src + d - 1 in
@@ -154,17 +152,19 @@ overflow_add-s6 c =
     let s6 = s5 + d - 6 in
     let s7 = s6 + d - 7 in
     let s8 = s7 + d - 8 in
-    rise.Eight a.m l.k a.q (length a.v.now) l.src s1 s2 s3 s4 s5 s6 s7 s8 = let a = (start c).args in
-    let p = (start c).requires in
+    rise.Eight a.m l.k a.q (length a.v.now) l.src s1 s2 s3 s4 s5 s6 s7 s8 = let a = c.args in
+    let p = c.requires in
     let l = c.loop-k in
-    rise.eights a.m l.k a.q a.kw _ l.src _ _ _ _ p.above p.here p.stored l.invariant.1 refl refl refl refl _ _ _ _ c.loop-k-test.true refl refl refl refl in fits c _ (turn).high.in₁
+    rise.eights a.m l.k a.q a.kw _ l.src _ _ _ _ p.above p.here p.stored l.invariant.1 refl refl refl refl _ _ _ _ c.loop-k-test.true refl refl refl refl in
+    let fits : (s : ℕ) → s + (c.args.m - c.args.q) ≤ length c.args.v.now → Fits w64 (s + (c.args.m - c.loop-k.k)) = λ s h. rise.wide s c.args.m c.loop-k.k _ _ h (omega arith) c.requires.few in fits _ (turn).high.in₁
 
 pub overflow_sub-s6 : goal.overflow_sub-s6
-overflow_sub-s6 c = enough c _ 6 (omega arith)
+overflow_sub-s6 c =
+    let enough : (s j : ℕ) → j ≤ 8 → j ≤ s + (c.args.m - c.loop-k.k) = λ s j h. rise.enough s c.args.m c.loop-k.k j (omega arith) in enough _ 6 (omega arith)
 
 pub overflow_add-s7 : goal.overflow_add-s7
 overflow_add-s7 c =
-    let turn : let a = (start c).args in
+    let turn : let a = c.args in
     let l = c.loop-k in
     let d = a.m - l.k in
     let s1 = l.src + d - 1 in
@@ -175,17 +175,19 @@ overflow_add-s7 c =
     let s6 = s5 + d - 6 in
     let s7 = s6 + d - 7 in
     let s8 = s7 + d - 8 in
-    rise.Eight a.m l.k a.q (length a.v.now) l.src s1 s2 s3 s4 s5 s6 s7 s8 = let a = (start c).args in
-    let p = (start c).requires in
+    rise.Eight a.m l.k a.q (length a.v.now) l.src s1 s2 s3 s4 s5 s6 s7 s8 = let a = c.args in
+    let p = c.requires in
     let l = c.loop-k in
-    rise.eights a.m l.k a.q a.kw _ l.src _ _ _ _ p.above p.here p.stored l.invariant.1 refl refl refl refl _ _ _ _ c.loop-k-test.true refl refl refl refl in fits c _ (turn).high.in₂
+    rise.eights a.m l.k a.q a.kw _ l.src _ _ _ _ p.above p.here p.stored l.invariant.1 refl refl refl refl _ _ _ _ c.loop-k-test.true refl refl refl refl in
+    let fits : (s : ℕ) → s + (c.args.m - c.args.q) ≤ length c.args.v.now → Fits w64 (s + (c.args.m - c.loop-k.k)) = λ s h. rise.wide s c.args.m c.loop-k.k _ _ h (omega arith) c.requires.few in fits _ (turn).high.in₂
 
 pub overflow_sub-s7 : goal.overflow_sub-s7
-overflow_sub-s7 c = enough c _ 7 (omega arith)
+overflow_sub-s7 c =
+    let enough : (s j : ℕ) → j ≤ 8 → j ≤ s + (c.args.m - c.loop-k.k) = λ s j h. rise.enough s c.args.m c.loop-k.k j (omega arith) in enough _ 7 (omega arith)
 
 pub add8-requires : goal.add8-requires
 add8-requires c =
-    let turn : let a = (start c).args in
+    let turn : let a = c.args in
     let l = c.loop-k in
     let d = a.m - l.k in
     let s1 = l.src + d - 1 in
@@ -196,18 +198,18 @@ add8-requires c =
     let s6 = s5 + d - 6 in
     let s7 = s6 + d - 7 in
     let s8 = s7 + d - 8 in
-    rise.Eight a.m l.k a.q (length a.v.now) l.src s1 s2 s3 s4 s5 s6 s7 s8 = let a = (start c).args in
-    let p = (start c).requires in
+    rise.Eight a.m l.k a.q (length a.v.now) l.src s1 s2 s3 s4 s5 s6 s7 s8 = let a = c.args in
+    let p = c.requires in
     let l = c.loop-k in
     rise.eights a.m l.k a.q a.kw _ l.src _ _ _ _ p.above p.here p.stored l.invariant.1 refl refl refl refl _ _ _ _ c.loop-k-test.true refl refl refl refl in
     let t = c.before in
-    let f = turn t in
+    let f = turn in
     let l = t.loop-k in
-    (rise.some _ _ (start t).requires.here, f.low.in₀, f.low.in₁, f.low.in₂, f.low.in₃, f.high.in₀, f.high.in₁, f.high.in₂, f.high.in₃, (rise.begun_on _ (start t).requires l.invariant.2 l.invariant.0).room)
+    (rise.some _ _ t.requires.here, f.low.in₀, f.low.in₁, f.low.in₂, f.low.in₃, f.high.in₀, f.high.in₁, f.high.in₂, f.high.in₃, (rise.begun_on _ t.requires l.invariant.2 l.invariant.0).room)
 
 pub overflow_add-src-in-loop-k : goal.overflow_add-src-in-loop-k
 overflow_add-src-in-loop-k c =
-    let turn : let a = (start c).args in
+    let turn : let a = c.args in
     let l = c.loop-k in
     let d = a.m - l.k in
     let s1 = l.src + d - 1 in
@@ -218,17 +220,19 @@ overflow_add-src-in-loop-k c =
     let s6 = s5 + d - 6 in
     let s7 = s6 + d - 7 in
     let s8 = s7 + d - 8 in
-    rise.Eight a.m l.k a.q (length a.v.now) l.src s1 s2 s3 s4 s5 s6 s7 s8 = let a = (start c).args in
-    let p = (start c).requires in
+    rise.Eight a.m l.k a.q (length a.v.now) l.src s1 s2 s3 s4 s5 s6 s7 s8 = let a = c.args in
+    let p = c.requires in
     let l = c.loop-k in
-    rise.eights a.m l.k a.q a.kw _ l.src _ _ _ _ p.above p.here p.stored l.invariant.1 refl refl refl refl _ _ _ _ c.loop-k-test.true refl refl refl refl in let t = c.before.before.before.before in fits t _ (turn t).high.in₃
+    rise.eights a.m l.k a.q a.kw _ l.src _ _ _ _ p.above p.here p.stored l.invariant.1 refl refl refl refl _ _ _ _ c.loop-k-test.true refl refl refl refl in
+    let fits : (s : ℕ) → s + (c.args.m - c.args.q) ≤ length c.args.v.now → Fits w64 (s + (c.args.m - c.loop-k.k)) = λ s h. rise.wide s c.args.m c.loop-k.k _ _ h (omega arith) c.requires.few in let t = c.before.before.before.before in fits _ (turn).high.in₃
 
 pub overflow_sub-src-in-loop-k : goal.overflow_sub-src-in-loop-k
-overflow_sub-src-in-loop-k c = enough c.before.before.before.before _ 8 (omega arith)
+overflow_sub-src-in-loop-k c =
+    let enough : (s j : ℕ) → j ≤ 8 → j ≤ s + (c.args.m - c.loop-k.k) = λ s j h. rise.enough s c.args.m c.loop-k.k j (omega arith) in enough _ 8 (omega arith)
 
 pub loop-k-preserved : goal.loop-k-preserved
 loop-k-preserved c =
-    let turn : let a = (start c).args in
+    let turn : let a = c.args in
     let l = c.loop-k in
     let d = a.m - l.k in
     let s1 = l.src + d - 1 in
@@ -239,15 +243,15 @@ loop-k-preserved c =
     let s6 = s5 + d - 6 in
     let s7 = s6 + d - 7 in
     let s8 = s7 + d - 8 in
-    rise.Eight a.m l.k a.q (length a.v.now) l.src s1 s2 s3 s4 s5 s6 s7 s8 = let a = (start c).args in
-    let p = (start c).requires in
+    rise.Eight a.m l.k a.q (length a.v.now) l.src s1 s2 s3 s4 s5 s6 s7 s8 = let a = c.args in
+    let p = c.requires in
     let l = c.loop-k in
     rise.eights a.m l.k a.q a.kw _ l.src _ _ _ _ p.above p.here p.stored l.invariant.1 refl refl refl refl _ _ _ _ c.loop-k-test.true refl refl refl refl in
     let t = c.before.before.before.before in
-    let a = (start t).args in
+    let a = t.args in
     let l = t.loop-k in
-    let f = turn t in
-    (t.loop-k-test.true, f.at₈, rise.summed_more8 _ a.v.now a.m a.q _ _ _ l.k _ _ _ _ _ _ _ _ _ _ (le_trans t.loop-k-test.true (start t).requires.above) f l.invariant.2 c.add8.ensures)
+    let f = turn in
+    (t.loop-k-test.true, f.at₈, rise.summed_more8 _ a.v.now a.m a.q _ _ _ l.k _ _ _ _ _ _ _ _ _ _ (le_trans t.loop-k-test.true t.requires.above) f l.invariant.2 c.add8.ensures)
 
 pub by_fours-requires : goal.by_fours-requires
 by_fours-requires c =

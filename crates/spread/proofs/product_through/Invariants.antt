@@ -1,0 +1,15 @@
+-- `spread::product_through` meets its contract. Touched up to i, each at its own place; the source lies before all of them. Assumes nothing.
+use Prim.Native.Nat.{◌+◌, ◌-◌, ◌≤◌}
+use lib.ListN.{get_or}
+use lib.Ieee.{nan, binary64, sub}
+use Rattle.statement.specs.Input.{+0}
+use Rattle.areas.specs.Touch.{Touched}
+use Rattle.products.specs.Products.{plus}
+use Rattle.spread.specs.Spread.{through}
+use Rattle.spread.proofs.product_through.Given as goal
+
+abbrev pub invariant-loop-i : goal.invariant-loop-i
+invariant-loop-i l = (l.i ≤ l.n) × Touched nan l.initial.own l.own l.i (through l.place l.rows l.base l.at) (λ i. sub binary64 (get_or l.initial.own (through l.place l.rows l.base l.at i) nan) (plus l.initial.own l.src i +0))
+
+abbrev pub decreases-loop-i : goal.decreases-loop-i
+decreases-loop-i l = l.n - l.i
