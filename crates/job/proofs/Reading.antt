@@ -5,14 +5,19 @@ use lib.Seq.{take-take}
 use Rattle.std.specs.Io.KnownBytes.{Appends, Consumes, IsAtEnd}
 use Rattle.statement.specs.Job.{job, text_limit, ReadIn, Works, answer_in}
 use Rattle.frames.proofs.Limit.{job_read}
+use Rattle.jobs.proofs.Working.{answer_fits}
 
 -- the buffer is long enough, and k is no more than it holds
 pub read_says : (text buffer : List ℕ) (k n : ℕ) → text_limit ≤ length buffer → n ≡ min k (length buffer) → ReadIn text buffer k → job (take n buffer) ≡ job text
 read_says text buffer k n l e h = let m : n ≡ k = omega (arith, h.0) in ap (λ x. job (take x buffer)) m ∙ job_read text buffer k l h
 
 -- what was read is a text of its own
-pub reads_itself : (buffer : List ℕ) {k : ℕ} → k ≤ length buffer → ReadIn (take k buffer) buffer k
+reads_itself : (buffer : List ℕ) {k : ℕ} → k ≤ length buffer → ReadIn (take k buffer) buffer k
 reads_itself buffer {k} h = (omega (arith, length-take-le k buffer h), sym (take-take k k buffer (omega arith)))
+
+-- what is answered for what was read fits
+pub fits : (buffer out₀ : List ℕ) {out : List ℕ} {k r : ℕ} → k ≤ length buffer → ((text : List ℕ) → ReadIn text buffer k → Works text out₀ (record { out = out; bytes = r })) → r ≤ length out
+fits buffer out₀ {out} {k} {r} l w = answer_fits (job (take k buffer)) out₀ (w (take k buffer) (reads_itself buffer l))
 
 -- k bytes that were taken from a text, the last of it where the buffer holds more
 taken : (text rest buffer : List ℕ) (k : ℕ) → k ≤ length buffer → text ≡ take k buffer ++ rest → (k < length buffer → rest ≡ []) → ReadIn text buffer k

@@ -1,14 +1,13 @@
 -- `job::answer` meets its contract: an answer is no longer than its buffer, and what goes out is the answer to what came in. Assumes nothing.
-use Rattle.std.proofs.Common.{sym, length-take-le}
-use Rattle.jobs.proofs.Working.{answer_fits}
-use Rattle.job.proofs.Reading.{reads_itself, tells}
+use Rattle.std.proofs.Common.{sym, arith, length-take-le}
+use Rattle.job.proofs.Reading.{fits, tells}
 use Rattle.job.proofs.answer.Goals as goal
 
 pub slice_bounds-out-end : goal.slice_bounds-out-end
-slice_bounds-out-end g c = answer_fits _ _ (c.answer_text-r.ensures _ (reads_itself _ (rw c.in_ok-k.ensures at c.read_full.ensures.bound)))
+slice_bounds-out-end g c = fits _ _ (omega (arith, rw c.in_ok-k.ensures at c.read_full.ensures.bound)) c.answer_text-r.ensures
 
 pub slice_bounds-write_all-end : goal.slice_bounds-write_all-end
-slice_bounds-write_all-end g c = sym (length-take-le _ _ (answer_fits _ _ (c.answer_text-r.ensures _ (reads_itself _ (rw c.in_ok-k.ensures at c.read_full.ensures.bound)))))
+slice_bounds-write_all-end g c = sym (length-take-le _ _ (fits _ _ (omega (arith, rw c.in_ok-k.ensures at c.read_full.ensures.bound)) c.answer_text-r.ensures))
 
 pub returns : goal.returns
 returns g c =
