@@ -7,7 +7,6 @@ use Prim.Native.Nat.{ℕ, ◌≤◌}
 use native.Mathlib.Nat.{mul-le-mul}
 use native.Mathlib.Omega.{arith}
 use lib.Dec.{ltb}
-use lib.ListN.{length}
 use borrow.Author.Tests.{le-ltb}
 use Rattle.statement.specs.Input.{Matrix, WellFormed, rows_length, pattern}
 use Rattle.statement.specs.Fill.{entries}

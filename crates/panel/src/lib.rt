@@ -1,5 +1,5 @@
-// One supernode's trapezoid, column by column, and `Panel`, a view of it. What holds a `Panel` is proved by hand, so the work stands in functions on
-// the slice and the numbers, and callers go through `panel_column` and `panel_entry`.
+// One supernode's trapezoid, column by column, and `Panel`, a view of it. The work stands in functions on the slice and the numbers, and
+// callers go through `panel_column` and `panel_entry`.
 #![tactic(auto)]
 
 ghost use Rattle.std.specs.Prelude.{◌≡◌, ◌≤◌, ◌<◌};

@@ -1,5 +1,4 @@
-// The run of supernodes in order: one turn after the other, each with its updates copied among the words. A slice of updates is passed on, so
-// that the two are walked (tools/walk.py).
+// The run of supernodes in order: one turn after the other, each with its updates copied among the words.
 #![tactic(auto)]
 
 ghost use Rattle.std.specs.Prelude.{◌-◌, ◌≤◌, ◌<◌, length};

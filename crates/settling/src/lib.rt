@@ -1,5 +1,5 @@
 // From where the run can start to what factor leaves: the updates laid, the run, number 9, and the last clearing. It hands the
-// areas on: what is to be decided is decided in covered functions, and counts of 0 do nothing.
+// areas on: what is to be decided is decided in the functions that it calls, and counts of 0 do nothing.
 #![tactic(auto)]
 
 ghost use Rattle.std.specs.Prelude.{length};

@@ -1,5 +1,4 @@
-// A lent slice of updates, read and written by thin functions: the borrow checker does not cover them, so that they are
-// walked by hand (tools/walk.py writes the longer walks).
+// A lent slice of updates, read, written and cleared by thin functions.
 #![tactic(auto)]
 
 ghost use Rattle.std.specs.Prelude.{◌≡◌, ◌++◌, ◌-◌, ◌≤◌, ◌<◌, length, get_or, set, replicate, take, drop};
