@@ -3,7 +3,7 @@
 
   make.py BUILD               writes crates/widths/stdin and crates/widths/stdout
   make.py BUILD --check       compares instead
-  make.py BUILD PROGRAM FROM TO      holds PROGRAM (target/bin/widths) to the Rust on the lists of the seeds FROM to TO - 1
+  make.py BUILD PROGRAM FROM TO      holds PROGRAM (what `rt run` leaves in crates/widths/out) to the Rust on the lists of the seeds FROM to TO - 1
 
 BUILD is a folder with the cut source as cholesky.rs (bench/baseline.py SOURCE BUILD/cholesky.rs makes it). list.rs, beside
 this file, says what the lists hold; it draws from the seed alone, so that they are remade byte for byte."""

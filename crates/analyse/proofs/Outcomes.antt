@@ -95,7 +95,7 @@ module _ (M : Matrix) (cap : ℕ) (r : Room) (f : r.floats ≡ ample) (v : r.val
           nine_holds = l.nine_holds ∙ sym (ap (λ z. z.areas.rows) q);
         }
 
-  -- ---- the walk: the updates are laid before the end, and cleared after a refusal
+  -- ---- analyse: the updates are laid before the end, and cleared after a refusal
 
   module _ {x : Findings} {p₁ f₁ s₁ g₁ t₁ w₁ n₁ : List ℕ} (found : Surveyed M cap r x p₁ f₁ s₁ g₁ t₁ w₁ n₁) {ns : ℕ} (many : ns ≡ x.supernodes) {w₂ : List ℕ} {us us₂ : List Update}
       (laid : LaidOut M.n ns M.starts M.rows w₁ w₂ us us₂) (long : length us ≡ r.updates) where

@@ -199,7 +199,7 @@ module _ {M : Matrix} {cap : ℕ} {o : Order} {l : List ℕ} {e : Stop} {r : Roo
               held_over r.values +0 (ran M o l e).values x.entries (sym (length-take-le x.entries values' (omega (arith, total))) ∙ ap length part) p.zero
               (sym (take-append-drop x.entries values') ∙ ap (λ z. take x.entries values' ++ z) y.rest ∙ ap (λ z. z ++ drop x.entries values) part)
 
-  -- ---- for the walk of factor
+  -- ---- for factor
 
   module _ (b : Begun M cap o l e r x permutation firsts starts groups tasks words floats nine values) {ns : ℕ} (en : ns ≡ x.supernodes) {words' : List ℕ} {us us' : List Update} (d : LaidOut M.n ns M.starts M.rows words words' us us') (same : length words' ≡ length words)
       {t : ℕ} (steps : Steps x e t) {total : ℕ} (ee : total ≡ x.entries) where

@@ -1,4 +1,4 @@
--- What the walks share: a test that is told, and updates that are cleared one by one. Assumes nothing.
+-- A test that is told, and updates that are cleared one by one. Assumes nothing.
 use mathlib.Core.Path.{◌≡◌, refl, sym, ap, ap₂, ◌∙◌}
 use mathlib.Core.Bool.{Bool, true, false}
 use mathlib.Core.List.{List, ◌++◌}

@@ -1,4 +1,4 @@
--- `jobs::work` meets its contract: the walk over areas as long as a job has. Assumes nothing.
+-- `jobs::work` meets its contract: the call over areas as long as a job has. Assumes nothing.
 use mathlib.Core.Path.{refl}
 use Rattle.statement.specs.Job.{job_room}
 use Rattle.jobs.proofs.work.Goals as goal
