@@ -11,9 +11,10 @@ with nothing written, where two names of one file would fall together.
 """
 import os
 import re
+import subprocess
 import sys
 
-KIT = os.path.realpath(os.environ.get("KIT", "/opt/rattle"))
+KIT = os.path.dirname(subprocess.run(["rt", "doc"], capture_output=True, text=True, check=True).stdout.strip())
 WORD = re.compile(r"[^\s(){}\[\];,.\"`@!|&]+")
 SIGNED = re.compile(r"^\s*(?:(?:pub|abbrev|unfoldable|opaque|private|instance|let|in|where)\s+)*([^\s(){}\[\];,.\"]+)\s+(?:[({][^=]*?[)}]\s*)*:(?=\s)")
 BOUND = re.compile(r"(?:let|;|\bin let)\s+([^\s(){}\[\];,.\"]+)\s+(?::|=)(?=\s)")

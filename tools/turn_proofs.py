@@ -12,6 +12,7 @@ import os
 import re
 import subprocess
 import sys
+import tempfile
 
 WORD = r"[^\s(){}\[\];,.\"]+"
 TRIVIAL = {"omega arith", "search rules", "omega (arith)", "search"}
@@ -22,8 +23,7 @@ def norm(s):
 
 
 def names_of(crate):
-    out = f"/tmp/names-{os.getpid()}-{crate}"
-    subprocess.run(["rm", "-rf", out])
+    out = tempfile.mkdtemp(prefix="names-")
     r = subprocess.run(["rt", "check", "--generated", out, "--old-names"], cwd=f"crates/{crate}", capture_output=True, text=True)
     try:
         return json.load(open(out + "/names.json"))
@@ -320,8 +320,7 @@ class Fn:
             self.last = (out, state)
             return out
 
-        lets = re.compile(rf"let ({WORD}) = (c(?:\.{WORD})*) in")
-        # aliases first, in order, since a later one may stand on an earlier
+            # aliases first, in order, since a later one may stand on an earlier
         for m in re.finditer(rf"\blet\s+({WORD})\s+=\s+({WORD})((?:\.{WORD})*)\s+in\b", body):
             if m.group(2) in alias:
                 self.last = None

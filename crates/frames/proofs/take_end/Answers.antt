@@ -10,10 +10,10 @@ use mathlib.Core.Path.{sym, subst, ◌∙◌}
 use Rattle.frames.proofs.take_end.Goals as goal
 
 pub returns-then-end_ok : goal.returns-then-end_ok
-returns-then-end_ok c = let b = c.before.before.before.before.before.before.before.before.before in
-    let a = b.args in
+returns-then-end_ok c =
+    let a = c.args in
     let e = sym c.end_ok.ensures ∙ c.if-end_ok.true in
-    (record { n = b.requires.0.n; known = omega arith }, λ ro va ri j h. end_yes a.p a.starts.now ro va ri j h _ e b.requires.0.n b.requires.0.known b.requires.1 (tail_filled a.p.count a.starts.now _ (a.p.known.0 + 1) (a.p.n - a.p.known.0) c.fill_part.ensures))
+    (record { n = c.requires.0.n; known = omega arith }, λ ro va ri j h. end_yes a.p a.starts.now ro va ri j h _ e c.requires.0.n c.requires.0.known c.requires.1 (tail_filled a.p.count a.starts.now _ (a.p.known.0 + 1) (a.p.n - a.p.known.0) c.fill_part.ensures))
 
 pub returns-else-end_ok : goal.returns-else-end_ok
 returns-else-end_ok c = let a = c.args in
