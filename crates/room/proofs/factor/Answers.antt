@@ -1,21 +1,13 @@
 -- `room::factor` meets its contract, area by area. Assumes nothing.
-use borrow.Author.Tests.{lt-ltb, le-ltb}
-use Rattle.laws.specs.Answered.{answered}
-use Rattle.statement.specs.Areas.{short}
+use mathlib.Core.Path.{sym, ◌∙◌}
+use Rattle.laws.proofs.Passed.{exit_is, short_met, short_first}
 use Rattle.room.proofs.factor.Goals as goal
 
-pub returns-then-room-rows : goal.returns-then-room-rows
-unfolding short answered
-returns-then-room-rows c = rw (lt-ltb _ _ c.if-room-rows.true)
+pub returns-in_err-holds : goal.returns-in_err-holds
+returns-in_err-holds c = exit_is c.from_residual.ensures.1 ∙ short_first _ _ c.in_err-holds.ensures
 
-pub returns-then-room-updates : goal.returns-then-room-updates
-unfolding short answered
-returns-then-room-updates c = rw (le-ltb _ _ c.if-room-rows.false, lt-ltb _ _ c.if-room-updates.true)
-
-pub returns-then-room-entries : goal.returns-then-room-entries
-unfolding short answered
-returns-then-room-entries c = rw (le-ltb _ _ c.if-room-rows.false, le-ltb _ _ c.if-room-updates.false, lt-ltb _ _ c.if-room-entries.true)
+pub returns-in_err-holds-2 : goal.returns-in_err-holds-2
+returns-in_err-holds-2 c = exit_is c.from_residual-in_err-holds-2.ensures.1 ∙ short_first _ _ c.in_err-holds-2.ensures ∙ sym (short_met _ _ c.in_ok-holds.ensures)
 
 pub returns : goal.returns
-unfolding short answered
-returns c = rw (le-ltb _ _ c.if-room-rows.false, le-ltb _ _ c.if-room-updates.false, le-ltb _ _ c.if-room-entries.false)
+returns c = c.holds-3.ensures ∙ sym (short_met _ _ c.in_ok-holds.ensures ∙ short_met _ _ c.in_ok-holds-2.ensures)
