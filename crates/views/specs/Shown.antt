@@ -1,10 +1,11 @@
 -- What each view shows, in the statement's words. Definitions only.
-use Rattle.std.specs.Prelude.{ℕ}
+use Rattle.std.specs.Prelude.{◌≡◌}
 use Rattle.statement.specs.Input as input
 use Rattle.statement.specs.Shape.{Shape}
 use Rattle.statement.specs.Solve.{FactorAreas}
 use Rattle.laws.specs.Lent.{lent, laid}
 use Rattle.views.specs.declared.Matrix.{Matrix}
+use Rattle.views.specs.declared.Columns.{Columns}
 use Rattle.views.specs.declared.Structure.{Structure}
 use Rattle.views.specs.declared.Factor.{Factor}
 
@@ -16,3 +17,7 @@ shape_of s = laid s.n s.firsts.now s.starts.now s.rows.now
 
 abbrev pub areas_of : Factor → FactorAreas
 areas_of f = lent f.permutation.now f.firsts.now f.starts.now f.rows.now f.values.now
+
+-- the columns are the matrix's
+abbrev pub ColumnsOf : Matrix → Columns → Type 0
+ColumnsOf m c = (c.n ≡ m.n) × (c.starts.now ≡ m.starts.now) × (c.rows.now ≡ m.rows.now)

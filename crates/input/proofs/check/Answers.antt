@@ -1,33 +1,34 @@
 -- `input::check` meets its contract, test by test. Assumes nothing.
-use Rattle.statement.specs.Input.{matrix, wrong_start_at}
-use Rattle.input.proofs.Checks.{answer, over_n, over_rows, wrong_starts, wrong_values, wrong_start, sound, wrong_column, accepted}
+use Rattle.views.specs.Shown.{matrix_of}
+use Rattle.laws.proofs.First.{at_first, past_first}
+use Rattle.input.proofs.Checks.{over_n, over_rows, wrong_starts, wrong_values, wrong_start, sound, wrong_column, accepted}
+use mathlib.Core.Path.{refl}
 use native.Mathlib.Omega.{arith}
 use Rattle.input.proofs.check.Goals as goal
 
-pub returns-then-n-gt32768 : goal.returns-then-n-gt32768
-returns-then-n-gt32768 c = let a = c.args in let M = matrix a.n a.starts.now a.rows.now a.values.now in let rest' = answer M (over_n M c.if-n-gt32768.true) in record { value = rest'.0; variant = rest'.1 }
+pub returns-then-matrix-gt-COLUMNS_LIMIT-clause-refused : goal.returns-then-matrix-gt-COLUMNS_LIMIT-clause-refused
+returns-then-matrix-gt-COLUMNS_LIMIT-clause-refused c = over_n (matrix_of c.args.matrix.now) c.if-matrix-gt-COLUMNS_LIMIT.true
 
-pub returns-then-rows-gt1048576 : goal.returns-then-rows-gt1048576
-returns-then-rows-gt1048576 c = let a = c.args in let M = matrix a.n a.starts.now a.rows.now a.values.now in let rest' = answer M (over_rows M c.if-n-gt32768.false c.if-rows-gt1048576.true) in record { value = rest'.0; variant = rest'.1 }
+pub returns-then-matrix-gt-ROWS_LIMIT-clause-refused : goal.returns-then-matrix-gt-ROWS_LIMIT-clause-refused
+returns-then-matrix-gt-ROWS_LIMIT-clause-refused c = over_rows _ c.if-matrix-gt-COLUMNS_LIMIT.false c.if-matrix-gt-ROWS_LIMIT.true
 
-pub returns-then-starts-n : goal.returns-then-starts-n
-returns-then-starts-n c = let a = c.args in let M = matrix a.n a.starts.now a.rows.now a.values.now in let rest' = answer M (wrong_starts M c.if-n-gt32768.false c.if-rows-gt1048576.false c.if-starts-n.true) in record { value = rest'.0; variant = rest'.1 }
+pub returns-then-matrix-clause-refused : goal.returns-then-matrix-clause-refused
+returns-then-matrix-clause-refused c = wrong_starts _ c.if-matrix-gt-COLUMNS_LIMIT.false c.if-matrix-gt-ROWS_LIMIT.false c.if-matrix.true
 
-pub returns-then-rows-values : goal.returns-then-rows-values
-returns-then-rows-values c = let a = c.args in let M = matrix a.n a.starts.now a.rows.now a.values.now in let rest' = answer M (wrong_values M c.if-n-gt32768.false c.if-rows-gt1048576.false c.if-starts-n.false c.if-rows-values.true) in record { value = rest'.0; variant = rest'.1 }
+pub returns-then-matrix-2-clause-refused : goal.returns-then-matrix-2-clause-refused
+returns-then-matrix-2-clause-refused c = wrong_values _ c.if-matrix-gt-COLUMNS_LIMIT.false c.if-matrix-gt-ROWS_LIMIT.false c.if-matrix.false c.if-matrix-2.true
 
-pub returns-then-p-n : goal.returns-then-p-n
-unfolding wrong_start_at
-returns-then-p-n c = let a = c.args in let M = matrix a.n a.starts.now a.rows.now a.values.now in let rest' = answer M (wrong_start M c.if-n-gt32768.false c.if-rows-gt1048576.false c.if-starts-n.false c.if-rows-values.false _ c.first_start-p.ensures c.if-p-n.true) in record { value = rest'.0; variant = rest'.1 }
+pub returns-in-Some-clause-refused : goal.returns-in-Some-clause-refused
+returns-in-Some-clause-refused c = let f = at_first _ _ c.in-Some.ensures in wrong_start _ c.if-matrix-gt-COLUMNS_LIMIT.false c.if-matrix-gt-ROWS_LIMIT.false c.if-matrix.false c.if-matrix-2.false _ f.1 (omega (arith, f.0))
 
-pub first_column-k-requires : goal.first_column-k-requires
-unfolding wrong_start_at
-first_column-k-requires c = let a = c.args in let M = matrix a.n a.starts.now a.rows.now a.values.now in record { starts_len = omega arith; by_index = sound M c.if-n-gt32768.false c.if-rows-gt1048576.false c.if-starts-n.false c.if-rows-values.false _ c.first_start-p.ensures c.if-p-n.false }
+pub first_column-requires-clause-by_index : goal.first_column-requires-clause-by_index
+first_column-requires-clause-by_index c = sound _ c.if-matrix-gt-COLUMNS_LIMIT.false c.if-matrix-gt-ROWS_LIMIT.false c.if-matrix.false c.if-matrix-2.false _ refl (past_first _ _ c.in_default.ensures)
 
-pub returns-then-k-n : goal.returns-then-k-n
-unfolding wrong_start_at
-returns-then-k-n c = let a = c.args in let M = matrix a.n a.starts.now a.rows.now a.values.now in let rest' = answer M (wrong_column M c.if-n-gt32768.false c.if-rows-gt1048576.false c.if-starts-n.false c.if-rows-values.false _ c.first_start-p.ensures c.if-p-n.false _ c.first_column-k.ensures c.if-k-n.true) in record { value = rest'.0; variant = rest'.1 }
+pub returns-in-Some-first_column-clause-refused : goal.returns-in-Some-first_column-clause-refused
+returns-in-Some-first_column-clause-refused c = let k = at_first _ _ c.in-Some-first_column.ensures in wrong_column _ c.if-matrix-gt-COLUMNS_LIMIT.false c.if-matrix-gt-ROWS_LIMIT.false c.if-matrix.false c.if-matrix-2.false _ refl (past_first _ _ c.in_default.ensures) _ k.1 k.0
 
-pub returns : goal.returns
-unfolding wrong_start_at
-returns c = let a = c.args in let M = matrix a.n a.starts.now a.rows.now a.values.now in let rest' = answer M (accepted M c.if-n-gt32768.false c.if-rows-gt1048576.false c.if-starts-n.false c.if-rows-values.false _ c.first_start-p.ensures c.if-p-n.false _ c.first_column-k.ensures c.if-k-n.false) in record { value = rest'.0; variant = rest'.1 }
+pub invariant_of-result : goal.invariant_of-result
+invariant_of-result c = record { valid = (accepted _ c.if-matrix-gt-COLUMNS_LIMIT.false c.if-matrix-gt-ROWS_LIMIT.false c.if-matrix.false c.if-matrix-2.false _ refl (past_first _ _ c.in_default.ensures) _ refl (past_first _ _ c.in_default-first_column.ensures)).columns }
+
+pub returns-clause-passed : goal.returns-clause-passed
+returns-clause-passed c = (accepted _ c.if-matrix-gt-COLUMNS_LIMIT.false c.if-matrix-gt-ROWS_LIMIT.false c.if-matrix.false c.if-matrix-2.false _ refl (past_first _ _ c.in_default.ensures) _ refl (past_first _ _ c.in_default-first_column.ensures), refl, refl, refl)

@@ -6,6 +6,3 @@ use Rattle.input.proofs.wrong_rows.Given as goal
 
 abbrev pub invariant-loop-p : goal.invariant-loop-p
 invariant-loop-p l = (h : l.e ≤ length l.rows) → Risen l.k l.rows l.e h l.a l.p
-
-abbrev pub decreases-loop-p : goal.decreases-loop-p
-decreases-loop-p l = l.e - l.p
