@@ -1,4 +1,3 @@
-use Prim.Native.Nat.{◌-◌}
 use Rattle.areas.proofs.Search.{search_start}
 use Rattle.structure.proofs.Twelve.{off_hit, off_more, off_none}
 use Rattle.structure.proofs.differs.Goals as goal

@@ -1,11 +1,7 @@
 -- `structure::differs` meets its contract: no supernode below k is off. Assumes nothing.
-use Prim.Native.Nat.{◌-◌}
 use Rattle.areas.proofs.Search.{Searched}
 use Rattle.structure.proofs.Twelve.{off}
 use Rattle.structure.proofs.differs.Given as goal
 
 abbrev pub invariant-loop-k : goal.invariant-loop-k
 invariant-loop-k l = Searched (off l.starts l.next) 0 l.ns l.k
-
-abbrev pub decreases-loop-k : goal.decreases-loop-k
-decreases-loop-k l = l.ns - l.k

@@ -5,5 +5,5 @@ use Rattle.structure.proofs.owner_or.Goals as goal
 pub returns-then-p-n : goal.returns-then-p-n
 returns-then-p-n c = simp (eq-eqb _ _ c.if-p-n.true)
 
-pub returns : goal.returns
-returns c = simp (ne_eqb _ _ c.if-p-n.false)
+pub returns-else-p-n : goal.returns-else-p-n
+returns-else-p-n c = simp (ne_eqb _ _ c.if-p-n.false)
