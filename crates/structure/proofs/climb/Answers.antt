@@ -8,12 +8,6 @@ loop-marks-init c = let q = c.requires in climbing_begin _ _ (pattern_upper _ _ 
 pub append-requires : goal.append-requires
 append-requires c = let q = c.requires in omega (arith, climbing_below _ _ (pattern_upper _ _ _ c.args.numbering.now.given.formed) _ q.in_row.0 c.loop-marks.invariant c.loop-marks-test.true)
 
-pub offset_bounds-numbering-at : goal.offset_bounds-numbering-at
-offset_bounds-numbering-at c = omega (arith, c.args.numbering.now.given.up_is.fits)
-
-pub bounds-numbering-at : goal.bounds-numbering-at
-bounds-numbering-at c = omega (arith, c.args.numbering.now.given.up_is.fits)
-
 pub loop-marks-smaller : goal.loop-marks-smaller
 loop-marks-smaller c = let q = c.requires in let w = c.loop-marks.invariant in omega (arith, c.args.numbering.now.given.up_is.at _ w.in_nodes, c.args.numbering.now.given.up_is.fits, climbing_rise _ _ (pattern_upper _ _ _ c.args.numbering.now.given.formed) _ q.in_row.0 w c.loop-marks-test.true)
 

@@ -1,9 +1,5 @@
-use Rattle.areas.proofs.Search.{search_start}
 use Rattle.structure.proofs.Twelve.{off_hit, off_more, off_none}
 use Rattle.structure.proofs.differs.Goals as goal
-
-pub loop-k-init : goal.loop-k-init
-loop-k-init c = search_start _ _ _
 
 pub returns-then-next-k : goal.returns-then-next-k
 returns-then-next-k c = let a = c.args in off_hit a.starts.now a.next.now c.loop-k.invariant c.loop-k-test.true c.if-next-k.true

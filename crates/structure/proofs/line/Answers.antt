@@ -3,20 +3,8 @@ use Rattle.areas.proofs.Buckets.{beyond_by}
 use native.Mathlib.Omega.{arith}
 use Rattle.structure.proofs.line.Goals as goal
 
-pub offset_bounds-numbering-r : goal.offset_bounds-numbering-r
-offset_bounds-numbering-r c = omega (arith, c.args.numbering.now.given.own_is.fits)
-
-pub bounds-numbering-r : goal.bounds-numbering-r
-bounds-numbering-r c = omega (arith, c.args.numbering.now.given.own_is.fits)
-
 pub append-requires : goal.append-requires
 append-requires c = let q = c.requires in let o = opened _ _ _ _ _ _ _ c.args.numbering.now.given _ q.r_lt_n q.lines in record { k_in_bounds = (o.in_m, o.in_n); k_in_bounds_2 = o.in_l }
-
-pub offset_bounds-numbering-r-2 : goal.offset_bounds-numbering-r-2
-offset_bounds-numbering-r-2 c = omega (arith, c.args.numbering.now.given.perm_is.fits)
-
-pub bounds-numbering-r-2 : goal.bounds-numbering-r-2
-bounds-numbering-r-2 c = omega (arith, c.args.numbering.now.given.perm_is.fits)
 
 pub overflow_add-p-end : goal.overflow_add-p-end
 overflow_add-p-end c = let q = c.requires in omega (arith, column_ends _ _ _ _ _ _ _ c.args.numbering.now.given _ q.r_lt_n)

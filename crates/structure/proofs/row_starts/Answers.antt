@@ -1,4 +1,3 @@
-use lib.ListN.{length-set}
 use Rattle.structure.proofs.Begun.{few, first_below, count_small, starts_more, starts_over}
 use Rattle.areas.proofs.Summing.{summing_begin}
 use native.Mathlib.Omega.{arith}
@@ -18,9 +17,6 @@ overflow_add-to c = omega (arith, count_small _ _ _ _ _ c.args.supernodes.now.kn
 
 pub loop-k-preserved : goal.loop-k-preserved
 loop-k-preserved c = let q = c.requires in starts_more _ _ _ _ _ c.args.supernodes.now.known _ q.counted _ c.loop-k-test.true c.loop-k.invariant
-
-pub shape_of-to : goal.shape_of-to
-shape_of-to c = omega (arith, length-set c.args.to.now 0 0)
 
 pub returns : goal.returns
 returns c = starts_over _ _ _ _ _ c.args.supernodes.now.known c.args.to.now c.loop-k.invariant c.loop-k-test.false

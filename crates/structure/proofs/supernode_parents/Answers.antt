@@ -7,12 +7,6 @@ use Rattle.structure.proofs.supernode_parents.Goals as goal
 pub loop-k-init : goal.loop-k-init
 loop-k-init c = front_start _ _ _ c.requires.room
 
-pub offset_bounds-supernodes-k : goal.offset_bounds-supernodes-k
-offset_bounds-supernodes-k c = omega (arith, c.args.supernodes.now.known.first-is.fits)
-
-pub bounds-supernodes-k : goal.bounds-supernodes-k
-bounds-supernodes-k c = omega (arith, c.args.supernodes.now.known.first-is.fits)
-
 pub overflow_sub-last : goal.overflow_sub-last
 overflow_sub-last c = omega (arith, last_at _ _ _ _ _ c.args.supernodes.now.known _ c.loop-k-test.true)
 
