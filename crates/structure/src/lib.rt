@@ -159,12 +159,7 @@ pub fn differs(ns: usize, starts: &[usize], next: &[usize]) -> bool
     requires { (ns < length starts.now) × (ns ≤ length next.now) }
     ensures { result ≡ ltb (least (λ K. not (eqb (get_or next.now K 0) (get_or starts.now (suc K) 0))) 0 ns) ns }
 {
-    for k in 0..ns {
-        if next[k] != starts[k + 1] {
-            return true;
-        }
-    }
-    false
+    next[..ns] != starts[1..=ns]
 }
 
 // The row starts and, past the n places in tasks, the supernodal parents; the number of structure rows.
