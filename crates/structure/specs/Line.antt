@@ -4,7 +4,9 @@ use Rattle.statement.specs.Lists.{bit, tally}
 use Rattle.statement.specs.Input.{Columns, columns_limit, stored}
 use Rattle.statement.specs.Fill.{parent}
 use Rattle.statement.specs.Postorder.{permutation, original}
-use Rattle.laws.specs.Numbered.{factored}
+use Rattle.laws.specs.Numbered.{factored, shape}
+use Rattle.statement.specs.Shape.{Shape}
+use Rattle.views.specs.declared.Columns as view
 use Rattle.laws.proofs.Postorder.{pos}
 use Rattle.areas.specs.Buckets.{Holds, Buckets}
 use Rattle.structure.specs.Node.{nodes, first_of, owner_of, above, in_row, node_rows}
@@ -12,6 +14,13 @@ use Rattle.structure.specs.Node.{nodes, first_of, owner_of, above, in_row, node_
 -- the pattern in factor numbering
 abbrev pub factored_pattern : ℕ → List ℕ → List ℕ → ℕ → ℕ → Bool
 factored_pattern n starts rows = factored (stored starts rows) n
+
+-- the same of a matrix as it is lent, and the structure of its factor
+abbrev pub pattern : view.Columns → ℕ → ℕ → Bool
+pattern m = factored_pattern m.n m.starts.now m.rows.now
+
+abbrev pub shape_of : view.Columns → Shape
+shape_of m = shape (stored m.starts.now m.rows.now) m.n
 
 -- n columns in ns supernodes, and their first columns
 pub record Known (n ns : ℕ) (starts rows firsts : List ℕ) : Type 0 where

@@ -3,72 +3,74 @@
 
 ghost use Rattle.std.specs.Prelude.{◌≡◌, false, cond, not, ◌++◌, ℕ, suc, ◌+◌, ◌≤◌, ◌<◌, T, eqb, ltb, length, get_or, set, take, drop};
 ghost use Rattle.statement.specs.Lists.{least};
-ghost use Rattle.statement.specs.Input.{Columns, stored};
 ghost use Rattle.statement.specs.Fill.{parent, count};
-ghost use Rattle.laws.specs.Numbered.{shape};
 ghost use Rattle.areas.specs.Buckets.{Holds, Beyond};
 ghost use Rattle.structure.specs.Node.{nodes, owner_of, above, in_row, row_start};
-ghost use Rattle.structure.specs.Line.{factored_pattern, Known, Given, Marked, Kept, Lines, Line};
+ghost use Rattle.structure.specs.Line.{pattern, shape_of, Known, Given, Marked, Kept, Lines, Line};
 
-use areas::{copy_part, fill_part};
+use views::Columns;
+
+// The supernodes of a matrix in factor numbering: how many, and their first columns.
+#[derive(Clone, Copy)]
+pub struct Supernodes<'a> {
+    pub matrix: Columns<'a>,
+    pub number: usize,
+    pub firsts: &'a [usize],
+    ghost known: { Known matrix.n number matrix.starts.now matrix.rows.now firsts.now },
+}
+
+// How a matrix is numbered for its factor: the column at each place, the place of each column, the supernode of each
+// factor column, the parent of each supernode.
+#[derive(Clone, Copy)]
+pub struct Numbering<'a> {
+    pub matrix: Columns<'a>,
+    pub permutation: &'a [usize],
+    pub places: &'a [usize],
+    pub owners: &'a [usize],
+    pub parents: &'a [usize],
+    ghost given: { Given matrix.n matrix.starts.now matrix.rows.now permutation.now places.now owners.now parents.now },
+}
 
 // The row starts: a supernode has as many rows as its first column has entries. The input names the pattern only.
-pub fn row_starts(
-    n: usize,
-    ns: usize,
-    input_starts: &[usize],
-    input_rows: &[usize],
-    firsts: &[usize],
-    counts: &[usize],
-    to: &mut [usize],
-)
-    requires known { Known n ns input_starts.now input_rows.now firsts.now }
-    requires holds { Holds (count (factored_pattern n input_starts.now input_rows.now) n) n counts.now }
-    requires ns_in_bounds { ns < length to.old }
-    ensures { to.new ≡ (shape (stored input_starts.now input_rows.now) n).starts ++ drop (suc ns) to.old }
+pub fn row_starts(supernodes: &Supernodes<'_>, counts: &[usize], to: &mut [usize])
+    requires counted { Holds (count (pattern supernodes.now.matrix) supernodes.now.matrix.n) supernodes.now.matrix.n counts.now }
+    requires room { supernodes.now.number < length to.old }
+    ensures { to.new ≡ (shape_of supernodes.now.matrix).starts ++ drop (suc supernodes.now.number) to.old }
 {
     to[0] = 0;
-    let mut k = 0;
-    while k < ns {
-        let f = firsts[k];
-        to[k + 1] = to[k] + counts[f];
-        k += 1;
+    for k in 0..supernodes.number {
+        to[k + 1] = to[k] + counts[supernodes.firsts[k]];
     }
 }
 
 // The supernode of column p; past the columns, the number of supernodes.
-fn owner_or(n: usize, ns: usize, own: &[usize], p: usize) -> usize
-    requires { (p ≤ n) × (n ≤ length own.now) }
-    ensures { result ≡ cond (eqb p n) ns (get_or own.now p 0) }
+fn owner_or(n: usize, ns: usize, owners: &[usize], p: usize) -> usize
+    requires { (p ≤ n) × (n ≤ length owners.now) }
+    ensures { result ≡ cond (eqb p n) ns (get_or owners.now p 0) }
 {
-    if p == n {
-        return ns;
-    }
-    own[p]
+    if p == n { ns } else { owners[p] }
 }
 
 // The parent of each supernode: the owner of its last column's parent.
 pub fn supernode_parents(
-    n: usize,
-    ns: usize,
-    input_starts: &[usize],
-    input_rows: &[usize],
-    firsts: &[usize],
+    supernodes: &Supernodes<'_>,
     parents: &[usize],
-    own: &[usize],
+    owners: &[usize],
     to: &mut [usize],
 )
-    requires known { Known n ns input_starts.now input_rows.now firsts.now }
-    requires holds { Holds (parent (factored_pattern n input_starts.now input_rows.now) n) n parents.now }
-    requires holds_2 { Holds (owner_of (factored_pattern n input_starts.now input_rows.now) n) n own.now }
-    requires ns_in_bounds { ns ≤ length to.old }
-    ensures { to.new ≡ (shape (stored input_starts.now input_rows.now) n).parents ++ drop ns to.old }
+    requires parented { Holds (parent (pattern supernodes.now.matrix) supernodes.now.matrix.n) supernodes.now.matrix.n parents.now }
+    requires owned { Holds (owner_of (pattern supernodes.now.matrix) supernodes.now.matrix.n) supernodes.now.matrix.n owners.now }
+    requires room { supernodes.now.number ≤ length to.old }
+    ensures { to.new ≡ (shape_of supernodes.now.matrix).parents ++ drop supernodes.now.number to.old }
 {
-    let mut k = 0;
-    while k < ns {
-        let l = firsts[k + 1] - 1;
-        to[k] = owner_or(n, ns, own, parents[l]);
-        k += 1;
+    for k in 0..supernodes.number {
+        let last = supernodes.firsts[k + 1] - 1;
+        to[k] = owner_or(
+            supernodes.matrix.n,
+            supernodes.number,
+            owners,
+            parents[last],
+        );
     }
 }
 
@@ -88,101 +90,67 @@ fn append(r: usize, k: usize, marks: &mut [usize], next: &mut [usize], to: &mut 
 
 // From supernode k up the parents, to one that has row r already.
 fn climb(
-    n: usize,
-    input_starts: &[usize],
-    input_rows: &[usize],
-    up: &[usize],
+    numbering: &Numbering<'_>,
     r: usize,
     k: usize,
     marks: &mut [usize],
     next: &mut [usize],
     to: &mut [usize],
 )
-    requires columns { (Columns n input_starts.now input_rows.now) × Holds (above (factored_pattern n input_starts.now input_rows.now) n) (nodes (factored_pattern n input_starts.now input_rows.now) n) up.now }
-    requires r_lt_n { (r < n) × (k < nodes (factored_pattern n input_starts.now input_rows.now) n) × T (in_row (factored_pattern n input_starts.now input_rows.now) n k r) }
-    requires line { Line (factored_pattern n input_starts.now input_rows.now) n r 0 marks.old next.old to.old }
-    ensures line_2 { Line (factored_pattern n input_starts.now input_rows.now) n r 0 marks.new next.new to.new }
+    requires in_row { (r < numbering.now.matrix.n) × (k < nodes (pattern numbering.now.matrix) numbering.now.matrix.n) × T (in_row (pattern numbering.now.matrix) numbering.now.matrix.n k r) }
+    requires line { Line (pattern numbering.now.matrix) numbering.now.matrix.n r 0 marks.old next.old to.old }
+    ensures line_after { Line (pattern numbering.now.matrix) numbering.now.matrix.n r 0 marks.new next.new to.new }
     ensures kept { Kept r marks.old marks.new }
     ensures marked { Marked r marks.new k }
-    ensures beyond { Beyond (row_start (factored_pattern n input_starts.now input_rows.now) n (nodes (factored_pattern n input_starts.now input_rows.now) n)) to.old to.new }
+    ensures beyond { Beyond (row_start (pattern numbering.now.matrix) numbering.now.matrix.n (nodes (pattern numbering.now.matrix) numbering.now.matrix.n)) to.old to.new }
 {
     let mut at = k;
     while marks[at] != r {
         append(r, at, marks, next, to);
-        at = up[at];
+        at = numbering.parents[at];
     }
 }
 
 // Row r: its own supernode, and a walk from each entry stored in it.
 fn line(
-    n: usize,
-    input_starts: &[usize],
-    input_rows: &[usize],
-    permutation: &[usize],
-    place: &[usize],
-    own: &[usize],
-    up: &[usize],
+    numbering: &Numbering<'_>,
     r: usize,
     marks: &mut [usize],
     next: &mut [usize],
     to: &mut [usize],
 )
-    requires r_lt_n { (r < n) × Given n input_starts.now input_rows.now permutation.now place.now own.now up.now }
-    requires lines { Lines (factored_pattern n input_starts.now input_rows.now) n r marks.old next.old to.old }
-    ensures lines_2 { Lines (factored_pattern n input_starts.now input_rows.now) n (suc r) marks.new next.new to.new }
-    ensures beyond { Beyond (row_start (factored_pattern n input_starts.now input_rows.now) n (nodes (factored_pattern n input_starts.now input_rows.now) n)) to.old to.new }
+    requires r_lt_n { r < numbering.now.matrix.n }
+    requires lines { Lines (pattern numbering.now.matrix) numbering.now.matrix.n r marks.old next.old to.old }
+    ensures lines_after { Lines (pattern numbering.now.matrix) numbering.now.matrix.n (suc r) marks.new next.new to.new }
+    ensures beyond { Beyond (row_start (pattern numbering.now.matrix) numbering.now.matrix.n (nodes (pattern numbering.now.matrix) numbering.now.matrix.n)) to.old to.new }
 {
-    append(r, own[r], marks, next, to);
-    let k = permutation[r];
-    let e = input_starts[k + 1];
-    let mut p = input_starts[k];
-    while p < e {
-        let i = input_rows[p];
-        let c = place[i];
-        climb(n, input_starts, input_rows, up, r, own[c], marks, next, to);
-        p += 1;
+    append(r, numbering.owners[r], marks, next, to);
+    let k = numbering.permutation[r];
+    for p in numbering.matrix.starts[k]..numbering.matrix.starts[k + 1] {
+        let i = numbering.matrix.rows[p];
+        let c = numbering.places[i];
+        climb(numbering, r, numbering.owners[c], marks, next, to);
     }
 }
 
 // The rows of all ns supernodes, row by row, so that each one's come out sorted; next ends where the next one's start.
 pub fn rows(
-    n: usize,
+    numbering: &Numbering<'_>,
     ns: usize,
-    input_starts: &[usize],
-    input_rows: &[usize],
-    permutation: &[usize],
-    place: &[usize],
-    own: &[usize],
-    up: &[usize],
     starts: &[usize],
     marks: &mut [usize],
     next: &mut [usize],
     to: &mut [usize],
 )
-    requires given { Given n input_starts.now input_rows.now permutation.now place.now own.now up.now }
-    requires ns_value { (ns ≡ nodes (factored_pattern n input_starts.now input_rows.now) n) × Holds (row_start (factored_pattern n input_starts.now input_rows.now) n) (suc ns) starts.now }
-    requires ns_in_bounds { (ns ≤ length marks.old) × (ns ≤ length next.old) × (length (shape (stored input_starts.now input_rows.now) n).rows ≤ length to.old) }
-    ensures to_after { to.new ≡ (shape (stored input_starts.now input_rows.now) n).rows ++ drop (length (shape (stored input_starts.now input_rows.now) n).rows) to.old }
-    ensures holds { Holds (λ k. row_start (factored_pattern n input_starts.now input_rows.now) n (suc k)) ns next.new }
+    requires started { (ns ≡ nodes (pattern numbering.now.matrix) numbering.now.matrix.n) × Holds (row_start (pattern numbering.now.matrix) numbering.now.matrix.n) (suc ns) starts.now }
+    requires room { (ns ≤ length marks.old) × (ns ≤ length next.old) × (length (shape_of numbering.now.matrix).rows ≤ length to.old) }
+    ensures to_after { to.new ≡ (shape_of numbering.now.matrix).rows ++ drop (length (shape_of numbering.now.matrix).rows) to.old }
+    ensures ended { Holds (λ k. row_start (pattern numbering.now.matrix) numbering.now.matrix.n (suc k)) ns next.new }
 {
-    fill_part(ns, n, marks);
-    copy_part(ns, starts, next);
-    let mut r = 0;
-    while r < n {
-        line(
-            n,
-            input_starts,
-            input_rows,
-            permutation,
-            place,
-            own,
-            up,
-            r,
-            marks,
-            next,
-            to,
-        );
-        r += 1;
+    marks[..ns].fill(numbering.matrix.n);
+    next[..ns].copy_from_slice(&starts[..ns]);
+    for r in 0..numbering.matrix.n {
+        line(numbering, r, marks, next, to);
     }
 }
 
@@ -191,86 +159,50 @@ pub fn differs(ns: usize, starts: &[usize], next: &[usize]) -> bool
     requires { (ns < length starts.now) × (ns ≤ length next.now) }
     ensures { result ≡ ltb (least (λ K. not (eqb (get_or next.now K 0) (get_or starts.now (suc K) 0))) 0 ns) ns }
 {
-    let mut k = 0;
-    while k < ns {
-        if next[k] != starts[k + 1] {
-            return true;
-        }
-        k += 1;
-    }
-    false
+    next[..ns] != starts[1..=ns]
 }
 
 // The row starts and, past the n places in tasks, the supernodal parents; the number of structure rows.
 pub fn node_starts(
-    n: usize,
-    ns: usize,
-    input_starts: &[usize],
-    input_rows: &[usize],
-    firsts: &[usize],
+    supernodes: &Supernodes<'_>,
     counts: &[usize],
     parents: &[usize],
-    own: &[usize],
+    owners: &[usize],
     starts: &mut [usize],
     tasks: &mut [usize],
 ) -> usize
-    requires known { Known n ns input_starts.now input_rows.now firsts.now }
-    requires holds { Holds (count (factored_pattern n input_starts.now input_rows.now) n) n counts.now }
-    requires holds_2 { Holds (parent (factored_pattern n input_starts.now input_rows.now) n) n parents.now }
-    requires holds_3 { Holds (owner_of (factored_pattern n input_starts.now input_rows.now) n) n own.now }
-    requires ns_in_bounds { (ns < length starts.old) × (n + ns ≤ length tasks.old) }
-    ensures value { result ≡ length (shape (stored input_starts.now input_rows.now) n).rows }
-    ensures starts_after { starts.new ≡ (shape (stored input_starts.now input_rows.now) n).starts ++ drop (suc ns) starts.old }
-    ensures tasks_after { tasks.new ≡ take n tasks.old ++ ((shape (stored input_starts.now input_rows.now) n).parents ++ drop ns (drop n tasks.old)) }
+    requires counted { Holds (count (pattern supernodes.now.matrix) supernodes.now.matrix.n) supernodes.now.matrix.n counts.now }
+    requires parented { Holds (parent (pattern supernodes.now.matrix) supernodes.now.matrix.n) supernodes.now.matrix.n parents.now }
+    requires owned { Holds (owner_of (pattern supernodes.now.matrix) supernodes.now.matrix.n) supernodes.now.matrix.n owners.now }
+    requires room { (supernodes.now.number < length starts.old) × (supernodes.now.matrix.n + supernodes.now.number ≤ length tasks.old) }
+    ensures value { result ≡ length (shape_of supernodes.now.matrix).rows }
+    ensures starts_after { starts.new ≡ (shape_of supernodes.now.matrix).starts ++ drop (suc supernodes.now.number) starts.old }
+    ensures tasks_after { tasks.new ≡ take supernodes.now.matrix.n tasks.old ++ ((shape_of supernodes.now.matrix).parents ++ drop supernodes.now.number (drop supernodes.now.matrix.n tasks.old)) }
 {
-    row_starts(n, ns, input_starts, input_rows, firsts, counts, starts);
+    row_starts(supernodes, counts, starts);
     supernode_parents(
-        n,
-        ns,
-        input_starts,
-        input_rows,
-        firsts,
+        supernodes,
         parents,
-        own,
-        &mut tasks[n..],
+        owners,
+        &mut tasks[supernodes.matrix.n..],
     );
-    starts[ns]
+    starts[supernodes.number]
 }
 
-// The rows of the supernodes from the areas at hand: the places and the supernodal parents are in tasks, the supernode
-// of each column in words. Whether a row structure differs from the counts, which it never does.
+// The rows of the supernodes, where starts has the row starts. Whether a row structure differs from the counts, which it never does.
 pub fn structure(
-    n: usize,
+    numbering: &Numbering<'_>,
     ns: usize,
-    input_starts: &[usize],
-    input_rows: &[usize],
-    permutation: &[usize],
     starts: &[usize],
-    tasks: &[usize],
-    words: &[usize],
     marks: &mut [usize],
     next: &mut [usize],
     to: &mut [usize],
 ) -> bool
-    requires given { Given n input_starts.now input_rows.now permutation.now tasks.now words.now (drop n tasks.now) }
-    requires ns_value { (ns ≡ nodes (factored_pattern n input_starts.now input_rows.now) n) × Holds (row_start (factored_pattern n input_starts.now input_rows.now) n) (suc ns) starts.now }
-    requires ns_in_bounds { (ns ≤ length marks.old) × (ns ≤ length next.old) × (length (shape (stored input_starts.now input_rows.now) n).rows ≤ length to.old) }
+    requires started { (ns ≡ nodes (pattern numbering.now.matrix) numbering.now.matrix.n) × Holds (row_start (pattern numbering.now.matrix) numbering.now.matrix.n) (suc ns) starts.now }
+    requires room { (ns ≤ length marks.old) × (ns ≤ length next.old) × (length (shape_of numbering.now.matrix).rows ≤ length to.old) }
     ensures value { result ≡ false }
-    ensures to_after { to.new ≡ (shape (stored input_starts.now input_rows.now) n).rows ++ drop (length (shape (stored input_starts.now input_rows.now) n).rows) to.old }
+    ensures to_after { to.new ≡ (shape_of numbering.now.matrix).rows ++ drop (length (shape_of numbering.now.matrix).rows) to.old }
 {
-    rows(
-        n,
-        ns,
-        input_starts,
-        input_rows,
-        permutation,
-        tasks,
-        words,
-        &tasks[n..],
-        starts,
-        marks,
-        next,
-        to,
-    );
+    rows(numbering, ns, starts, marks, next, to);
     differs(ns, starts, next)
 }

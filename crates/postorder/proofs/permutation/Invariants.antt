@@ -6,6 +6,3 @@ use Rattle.postorder.proofs.permutation.Given as goal
 
 abbrev pub invariant-loop-j : goal.invariant-loop-j
 invariant-loop-j l = (l.j ≤ l.n) × (length l.perm ≡ l.n) × ((i : ℕ) → i < l.j → get_or l.perm (get_or l.place i 0) 0 ≡ i)
-
-abbrev pub decreases-loop-j : goal.decreases-loop-j
-decreases-loop-j l = l.n - l.j

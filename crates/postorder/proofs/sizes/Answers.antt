@@ -8,7 +8,7 @@ use Rattle.laws.specs.Pass as Post
 use Rattle.postorder.proofs.sizes.Goals as goal
 
 pub loop-j-init : goal.loop-j-init
-loop-j-init c = let f = c.fill.ensures in (omega arith, ap length f ∙ length-replicate _ _ ∙ c.requires.size_len, f ∙ size_start c.args.parents.now c.requires.size_len)
+loop-j-init c = let f = c.fill.ensures.after (λ y e. e) in (omega arith, ap length f ∙ length-replicate _ _ ∙ c.requires.size_len, f ∙ size_start c.args.parents.now c.requires.size_len)
 
 pub offset_bounds-size-p : goal.offset_bounds-size-p
 offset_bounds-size-p c =

@@ -8,6 +8,3 @@ use Rattle.postorder.proofs.sizes.Given as goal
 
 abbrev pub invariant-loop-j : goal.invariant-loop-j
 invariant-loop-j l = (l.j ≤ l.n) × (length l.size ≡ suc l.n) × (l.size ≡ Post.sizes (up l.parents) l.n l.j)
-
-abbrev pub decreases-loop-j : goal.decreases-loop-j
-decreases-loop-j l = l.n - l.j

@@ -1,16 +1,7 @@
-use Prim.Native.Nat.{◌-◌}
-use Rattle.areas.proofs.Search.{search_start}
-use Rattle.structure.proofs.Twelve.{off_hit, off_more, off_none}
+-- `structure::differs` meets its contract. Assumes nothing.
+use mathlib.Core.Path.{◌∙◌}
+use Rattle.structure.proofs.Twelve.{differ_is}
 use Rattle.structure.proofs.differs.Goals as goal
 
-pub loop-k-init : goal.loop-k-init
-loop-k-init c = search_start _ _ _
-
-pub returns-then-next-k : goal.returns-then-next-k
-returns-then-next-k c = let a = c.args in off_hit a.starts.now a.next.now c.loop-k.invariant c.loop-k-test.true c.if-next-k.true
-
-pub loop-k-preserved : goal.loop-k-preserved
-loop-k-preserved c = let a = c.args in off_more a.starts.now a.next.now c.loop-k.invariant c.loop-k-test.true c.if-next-k.false
-
 pub returns : goal.returns
-returns c = let a = c.args in off_none a.starts.now a.next.now c.loop-k.invariant c.loop-k-test.false
+returns c = c.ne.ensures ∙ differ_is c.args.starts.now c.args.next.now c.args.ns c.requires.0 c.requires.1

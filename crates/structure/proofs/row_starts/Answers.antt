@@ -1,27 +1,22 @@
-use lib.ListN.{length-set}
 use Rattle.structure.proofs.Begun.{few, first_below, count_small, starts_more, starts_over}
 use Rattle.areas.proofs.Summing.{summing_begin}
-use Prim.Native.Nat.{◌-◌}
 use native.Mathlib.Omega.{arith}
 use Rattle.structure.proofs.row_starts.Goals as goal
 
 pub loop-k-init : goal.loop-k-init
-loop-k-init c = summing_begin _ _ c.args.to.now c.requires.ns_in_bounds
+loop-k-init c = summing_begin _ _ c.args.to.now c.requires.room
 
-pub offset_bounds-counts-f : goal.offset_bounds-counts-f
-offset_bounds-counts-f c = omega (arith, first_below _ _ _ _ _ c.requires.known _ c.loop-k-test.true, c.requires.holds.fits)
+pub offset_bounds-counts-supernodes : goal.offset_bounds-counts-supernodes
+offset_bounds-counts-supernodes c = omega (arith, first_below _ _ _ _ _ c.args.supernodes.now.known _ c.loop-k-test.true, c.requires.counted.fits)
 
-pub bounds-counts-f : goal.bounds-counts-f
-bounds-counts-f c = omega (arith, first_below _ _ _ _ _ c.requires.known _ c.loop-k-test.true, c.requires.holds.fits)
+pub bounds-counts-supernodes : goal.bounds-counts-supernodes
+bounds-counts-supernodes c = omega (arith, first_below _ _ _ _ _ c.args.supernodes.now.known _ c.loop-k-test.true, c.requires.counted.fits)
 
 pub overflow_add-to : goal.overflow_add-to
-overflow_add-to c = omega (arith, count_small _ _ _ _ _ c.requires.known _ c.requires.holds _ c.loop-k-test.true, few _ _ _ _ _ c.requires.known, c.requires.known.small)
+overflow_add-to c = omega (arith, count_small _ _ _ _ _ c.args.supernodes.now.known _ c.requires.counted _ c.loop-k-test.true, few _ _ _ _ _ c.args.supernodes.now.known, c.args.supernodes.now.known.small)
 
 pub loop-k-preserved : goal.loop-k-preserved
-loop-k-preserved c = let q = c.requires in starts_more _ _ _ _ _ q.known _ q.holds _ c.loop-k-test.true c.loop-k.invariant
-
-pub shape_of-to : goal.shape_of-to
-shape_of-to c = omega (arith, length-set c.args.to.now 0 0)
+loop-k-preserved c = let q = c.requires in starts_more _ _ _ _ _ c.args.supernodes.now.known _ q.counted _ c.loop-k-test.true c.loop-k.invariant
 
 pub returns : goal.returns
-returns c = starts_over _ _ _ _ _ c.requires.known c.args.to.now c.loop-k.invariant c.loop-k-test.false
+returns c = starts_over _ _ _ _ _ c.args.supernodes.now.known c.args.to.now c.loop-k.invariant c.loop-k-test.false

@@ -1,16 +1,14 @@
-use Prim.Native.Nat.{◌-◌}
-use Rattle.areas.proofs.Summed.{sum_start, sum_more, sum_over}
+-- `tree::entries` meets its contract. Assumes nothing.
+use lib.ListN.{take}
+use mathlib.Core.Path.{◌∙◌}
 use native.Mathlib.Omega.{arith}
+use Rattle.std.proofs.lemmas.Iterator.{YieldsList-from_slice}
+use Rattle.std.proofs.lemmas.Iterator.Consumers.{sum_from_yields_List, fits_from_yields_list}
+use Rattle.tree.proofs.Totals.{sum_from, sum_to}
 use Rattle.tree.proofs.entries.Goals as goal
 
-pub loop-j-init : goal.loop-j-init
-loop-j-init c = sum_start _ _ _
-
-pub overflow_add-total : goal.overflow_add-total
-overflow_add-total c = let h = c.requires.by_index _ c.loop-j-test.true in omega (arith, c.loop-j.invariant.most, c.requires.n_bound.0)
-
-pub loop-j-preserved : goal.loop-j-preserved
-loop-j-preserved c = let h = c.requires.by_index _ c.loop-j-test.true in sum_more c.loop-j.invariant c.loop-j-test.true (omega (arith, c.requires.n_bound.0))
+pub sum-requires-clause-fits : goal.sum-requires-clause-fits
+sum-requires-clause-fits c = fits_from_yields_list c.iter.result _ (YieldsList-from_slice (take c.args.n c.args.counts.now) cc) (omega (arith, sum_to (λ x. x) c.args.counts.now c.args.n 32768 c.requires.n_bound.1 (λ j h. omega (arith, c.requires.by_index j h)), c.requires.n_bound.0))
 
 pub returns : goal.returns
-returns c = sum_over c.loop-j.invariant c.loop-j-test.false
+returns c = sum_from_yields_List c.iter.result _ c.sum.ensures.ran (YieldsList-from_slice (take c.args.n c.args.counts.now) cc) ∙ sum_from (λ x. x) c.args.counts.now c.args.n c.requires.n_bound.1

@@ -13,7 +13,7 @@ pub slice_bounds-all-end-6 : goal.slice_bounds-all-end-6
 slice_bounds-all-end-6 c = sym (length-take-le _ _ c.requires.n_in_bounds.2)
 
 pub all-requires : goal.all-requires
-all-requires c = let q = c.requires in record { columns = q.columns; parents_len = (length-take-le _ _ q.n_in_bounds.0, length-take-le _ _ q.n_in_bounds.1, length-take-le _ _ q.n_in_bounds.2) }
+all-requires c = let q = c.requires in record { parents_len = (length-take-le _ _ q.n_in_bounds.0, length-take-le _ _ q.n_in_bounds.1, length-take-le _ _ q.n_in_bounds.2) }
 
 pub returns : goal.returns
 returns c = let e = c.all.ensures in record { parents_after = rw e.parents_after; counts_after = rw e.counts_after; marks_after = rw e.marks_after }
