@@ -1,6 +1,5 @@
 use Rattle.areas.proofs.Summing.{summing_begin, summing_more, summing_over}
 use lib.ListN.{length-set}
-use Prim.Native.Nat.{◌-◌}
 use native.Mathlib.Omega.{arith}
 use Rattle.areas.proofs.sums.sums.Goals as goal
 
