@@ -9,9 +9,7 @@ pub fn sums(m: usize, counts: &[usize], to: &mut [usize])
     ensures { to.new ≡ list (sum (λ j. get_or counts.now j 0)) (suc m) ++ drop (suc m) to.old }
 {
     to[0] = 0;
-    let mut k = 0;
-    while k < m {
+    for k in 0..m {
         to[k + 1] = to[k] + counts[k];
-        k += 1;
     }
 }

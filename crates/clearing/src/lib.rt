@@ -5,7 +5,7 @@ ghost use Rattle.std.specs.Prelude.{◌≡◌, ◌++◌, ◌-◌, ◌≤◌, len
 ghost use Rattle.statement.specs.Input.{+0};
 ghost use Rattle.clearing.specs.Zeroed.{ListsZeroed, Zeroed};
 
-use areas::{clear_floats, clear_words, fill};
+use areas::clear;
 
 // Areas 1 to 6: what of the structure is written over zeros.
 pub fn clear_lists(
@@ -18,12 +18,12 @@ pub fn clear_lists(
 )
     ensures { ListsZeroed permutation.old firsts.old starts.old groups.old tasks.old top.old permutation.new firsts.new starts.new groups.new tasks.new top.new }
 {
-    clear_words(permutation);
-    clear_words(firsts);
-    clear_words(starts);
-    clear_words(groups);
-    clear_words(tasks);
-    clear_words(top);
+    clear(permutation);
+    clear(firsts);
+    clear(starts);
+    clear(groups);
+    clear(tasks);
+    clear(top);
 }
 
 // Areas 1 to 7 and 9: the plain ones of the structure.
@@ -40,16 +40,8 @@ pub fn clear_structure(
     ensures { Zeroed permutation.old firsts.old starts.old groups.old tasks.old top.old words.old rows.old permutation.new firsts.new starts.new groups.new tasks.new top.new words.new rows.new }
 {
     clear_lists(permutation, firsts, starts, groups, tasks, top);
-    clear_words(words);
-    clear_words(rows);
-}
-
-// Areas 8 and 11: the scratch floats and the values.
-fn clear_numbers(floats: &mut [f64], values: &mut [f64])
-    ensures { (floats.new ≡ replicate (length floats.old) +0) × (values.new ≡ replicate (length values.old) +0) }
-{
-    clear_floats(floats);
-    clear_floats(values);
+    clear(words);
+    clear(rows);
 }
 
 // The ten plain areas: those of the structure, the scratch floats and the values.
@@ -68,7 +60,8 @@ pub fn clear_all(
     ensures zeroed { Zeroed permutation.old firsts.old starts.old groups.old tasks.old top.old words.old rows.old permutation.new firsts.new starts.new groups.new tasks.new top.new words.new rows.new }
     ensures floats_after { (floats.new ≡ replicate (length floats.old) +0) × (values.new ≡ replicate (length values.old) +0) }
 {
-    clear_numbers(floats, values);
+    clear(floats);
+    clear(values);
     clear_structure(permutation, firsts, starts, groups, tasks, top, words, rows);
 }
 
@@ -77,5 +70,5 @@ pub fn clear_behind(many: usize, s: &mut [usize])
     requires { many ≤ length s.old }
     ensures { s.new ≡ take many s.old ++ replicate (length s.old - many) 0 }
 {
-    fill(&mut s[many..], 0);
+    s[many..].fill(0);
 }

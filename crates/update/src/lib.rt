@@ -1,9 +1,10 @@
-// A lent slice of updates, read, written and cleared by thin functions.
+// What is left of the thin functions over a slice of updates: each is one line of its caller.
 #![tactic(auto)]
 
 ghost use Rattle.std.specs.Prelude.{◌≡◌, ◌++◌, ◌-◌, ◌≤◌, ◌<◌, length, get_or, set, replicate, take, drop};
 ghost use Rattle.statement.specs.Areas.{no_update};
 
+use areas::{Zero, clear as clear_all};
 use statement::Update;
 
 pub fn update_at(us: &[Update], i: usize) -> Update
@@ -23,11 +24,7 @@ pub fn put_update(us: &mut [Update], i: usize, u: Update)
 pub fn none() -> Update
     ensures { result ≡ no_update }
 {
-    Update {
-        supernode: 0,
-        p1: 0,
-        p2: 0,
-    }
+    Update::zero()
 }
 
 // Those from lo to below hi are none.
@@ -35,12 +32,7 @@ pub fn clear_between(us: &mut [Update], lo: usize, hi: usize)
     requires { (lo ≤ hi) × (hi ≤ length us.old) }
     ensures { us.new ≡ take lo us.old ++ replicate (hi - lo) no_update ++ drop hi us.old }
 {
-    let mut i = lo;
-    while i < hi {
-        let u = none();
-        put_update(us, i, u);
-        i += 1;
-    }
+    clear_all(&mut us[lo..hi]);
 }
 
 // The first n are none.
@@ -48,5 +40,5 @@ pub fn clear(us: &mut [Update], n: usize)
     requires { n ≤ length us.old }
     ensures { us.new ≡ replicate n no_update ++ drop n us.old }
 {
-    clear_between(us, 0, n);
+    clear_all(&mut us[..n]);
 }

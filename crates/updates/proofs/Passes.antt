@@ -1,10 +1,9 @@
 -- The two passes over all supernodes: from what the areas hold to what is answered. Assumes nothing.
 use mathlib.Core.Path.{◌≡◌, refl, sym, ap, ◌∙◌}
 use mathlib.Core.List.{List, ◌++◌}
-use Prim.Native.Nat.{ℕ, suc, ◌+◌, ◌≤◌, ◌<◌}
+use Prim.Native.Nat.{ℕ, suc, ◌≤◌, ◌<◌}
 use native.Mathlib.Omega.{arith}
 use native.Mathlib.Nat.{le_refl}
-use native.Mathlib.Numerals.{add-one}
 use lib.ListN.{length, get_or, drop, replicate, length-append, length-replicate, get_or-replicate, get_or-append}
 use Rattle.statement.specs.Lists.{list, sum, tally}
 use Rattle.statement.specs.Shape.{Shape, supernodes}
@@ -60,9 +59,6 @@ module _ (S : Shape) (ns : ℕ) (q : ns ≡ supernodes S) where
 
   pub put_over : {k : ℕ} {next : List ℕ} {l₀ l : List Update} → Put S k next l → Beyond (length (updates S)) l₀ l → k ≤ ns → ns ≤ k → l ≡ updates S ++ drop (length (updates S)) l₀
   put_over {k} w b x y = rw (updates_joined S) (buckets_over no_update (updates_of S) w (λ j h. sym (updates_length S j k (omega arith))) (rw (updates_joined S) at b))
-
-pub counted_next : {S : Shape} {k : ℕ} {l : List ℕ} → Counted S (suc k) l → Counted S (k + 1) l
-counted_next {k} w = rw (add-one k) w
 
 -- counts are small
 pub counts_small : {n ns : ℕ} {starts rows firsts own from list : List ℕ} → Laid n ns starts rows firsts own from list → (counts : List ℕ) → Holds (λ J. length (updates_of (shaped n starts rows) J)) ns counts

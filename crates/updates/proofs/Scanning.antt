@@ -24,7 +24,7 @@ use Rattle.updates.specs.Laying.{spotted, written, ToScan, Scanned}
 use Rattle.updates.proofs.Made.{Made}
 use Rattle.updates.proofs.Scans as Scans
 use Rattle.updates.proofs.Grouped.{updates_below, updates_at_lem, updates_start, few_updates}
-use Rattle.updates.proofs.Turns.{Place, laid_made, opens, opens_none, x_in, target, Turn, turn, turned, turn_next, turn_past, turn_more, bit_to}
+use Rattle.updates.proofs.Turns.{Place, laid_made, Opens, opens, opens_none, x_in, target, Turn, turn, turned, turn_next, turn_past, turn_more, bit_to}
 use Rattle.updates.proofs.Spots.{spot_length, spot_flags, spot_rest, spot_next, spot_other, spot_before, spot_place, spot_low, spot_high, written_same, written_beyond}
 
 -- other words past the first m
@@ -43,6 +43,17 @@ pub record Scanning (S : Shape) (n k : ℕ) (words₀ words : List ℕ) (p i : �
   pub same_len : length words ≡ length words₀
   pub flags : take (n + 1) words ≡ take (n + 1) words₀
   pub rest : drop (owners_at n) words ≡ drop (owners_at n) words₀
+
+-- what a turn from p reads and writes, where there is one
+pub record Ahead (n : ℕ) (list firsts words : List ℕ) (p e i base : ℕ) : Type 0 where
+  pub base_to : base ≤ p
+  pub end_to : e ≤ length list
+  pub room : offsets_at n ≤ length words
+  pub in_words : p < e → owners_at n + get_or list p 0 < length words
+  pub in_first : p < e → get_or words (owners_at n + get_or list p 0) 0 + 1 < length firsts
+  pub in_places : p < e → get_or words (owners_at n + get_or list p 0) 0 < n
+  pub in_spots : p < e → i < n
+  pub few : p < e → get_or words (places_at n + get_or words (owners_at n + get_or list p 0) 0) 0 < length list
 
 module _ (n ns : ℕ) (starts rows firsts from' list : List ℕ) (k : ℕ) (words₀ : List ℕ) (u : ToScan n ns starts rows firsts from' list k words₀) where
   abbrev S : Shape
@@ -125,25 +136,8 @@ module _ (n ns : ℕ) (starts rows firsts from' list : List ℕ) (k : ℕ) (word
       place_in : get_or (drop (places_at n) words) tj 0 < length (updates (shaped n starts rows))
       place_in = omega (arith, w.next tj tj_in, more, start_suc no_update (updates_of S) tj, start_rise no_update (updates_of S) (suc tj) (supernodes S) tj_in, updates_start S)
 
-      pub record Reads : Type 0 where
-        pub in_list : p < length list
-        pub in_words : owners_at n + get_or list p 0 < length words
-        pub in_first : get_or words (owners_at n + get_or list p 0) 0 + 1 < length firsts
-        pub in_places : get_or words (owners_at n + get_or list p 0) 0 < n
-        pub in_spots : i < n
-        pub room : offsets_at n ≤ length words
-        pub few : get_or words (places_at n + get_or words (owners_at n + get_or list p 0) 0) 0 < length list
-
-      pub scanning_reads : Reads
-      scanning_reads = record {
-        in_list = tn.in_list;
-        in_words = omega (arith, tn.in_own, length-drop (owners_at n) words₀, w.same_len, u.room);
-        in_first = omega (arith, owner_is, tn.in_first);
-        in_places = omega (arith, tj_is, tj_small);
-        in_spots = i_small;
-        room = room;
-        few = rw tj_is (omega (arith, get_or-drop (places_at n) words tj 0, place_in, few_updates S m, u.laid.list_is.fits));
-      }
+      few : get_or words (places_at n + get_or words (owners_at n + get_or list p 0) 0) 0 < length list
+      few = rw tj_is (omega (arith, get_or-drop (places_at n) words tj 0, place_in, few_updates S m, u.laid.list_is.fits))
 
       module _ {q : ℕ} (e : RunEnd list p (get_or from' (k + 1) 0) (get_or firsts (get_or words (owners_at n + get_or list p 0) 0 + 1) 0) q) where
         e' : RunEnd list p (get_or from' (k + 1) 0) (get_or firsts (get_or (drop (owners_at n) words₀) (get_or list p 0) 0 + 1) 0) q
@@ -211,6 +205,24 @@ module _ (n ns : ℕ) (starts rows firsts from' list : List ℕ) (k : ℕ) (word
 
         pub scanning_more : {words' : List ℕ} → words' ≡ spotted n (get_or words (owners_at n + get_or list p 0) 0) i (p - get_or from' k 0) (q - get_or from' k 0) words → Scanning (shaped n starts rows) n k words₀ words' q (i + 1)
         scanning_more c = rw (c, tj_is, add-one i) more_of
+
+    pub scanning_ahead : Scanning (shaped n starts rows) n k words₀ words p i × Ahead n list firsts words p (get_or from' (k + 1) 0) i (get_or from' k 0)
+    scanning_ahead = (
+      w,
+      record {
+        base_to = omega (arith, o.base, w.place.at);
+        end_to = o.past.end;
+        room = omega (arith, u.room, w.same_len);
+        in_words = λ h. omega (arith, (tn h).in_own, length-drop (owners_at n) words₀, w.same_len, u.room);
+        in_first = λ h. omega (arith, owner_is h, (tn h).in_first);
+        in_places = λ h. omega (arith, tj_is h, tj_small h);
+        in_spots = i_small;
+        few = few;
+      },
+    )
+      where
+        o : Opens n ns starts rows firsts (drop (owners_at n) words₀) from' list u.laid k u.inside
+        o = opens n ns starts rows firsts (drop (owners_at n) words₀) from' list u.laid k u.inside
 
     pub scanning_over : get_or from' (k + 1) 0 ≤ p → Scanned (shaped n starts rows) n k words₀ words i
     scanning_over h = record {

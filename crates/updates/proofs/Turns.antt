@@ -5,7 +5,7 @@ use mathlib.Core.Bool.{Bool, true, false, ◌&&◌}
 use mathlib.Core.List.{List}
 use Prim.Native.Nat.{ℕ, suc, ◌+◌, ◌-◌, ◌≤◌, ◌<◌}
 use native.Mathlib.Omega.{arith}
-use native.Mathlib.Nat.{le_refl, eq-or-lt_of_le}
+use native.Mathlib.Nat.{le_refl}
 use native.Mathlib.Numerals.{add-one}
 use lib.Dec.{leb}
 use lib.ListN.{length, get_or, set, length-set}
@@ -18,20 +18,10 @@ use Rattle.laws.proofs.Bools.{split_at, lt_or_le}
 use Rattle.laws.proofs.Input.{upper}
 use Rattle.laws.proofs.FactorTree.{upper'}
 use Rattle.laws.proofs.Tally.{count_to}
-use Rattle.updates.specs.Scan.{from, hits, met, shaped, Laid, RunEnd, Counted}
+use Rattle.updates.specs.Scan.{from, hits, met, shaped, Laid, Past, RunEnd, Counted}
 use Rattle.updates.proofs.Made.{Made, made_of}
 use Rattle.updates.proofs.Scans as Scans
 use Rattle.updates.proofs.Scans.{Scan, row_at}
-
--- ---- the end of a run
-
-pub record Running (list : List ℕ) (p e bound q : ℕ) : Type 0 where
-  pub from : p ≤ q
-  pub to : q ≤ e
-  pub low : (x : ℕ) → p ≤ x → x < q → get_or list x 0 < bound
-
-pub running_more : {list : List ℕ} {p e bound q : ℕ} → Running list p e bound q → q < e → get_or list q 0 < bound → Running list p e bound (q + 1)
-running_more {q} w h l = record { from = omega (arith, w.from); to = omega arith; low = λ x a b. ⊎_elim (λ (z : x ≡ q). rw z l) (λ (z : x < q). w.low x a z) (eq-or-lt_of_le (let z : x ≤ q = omega arith in z)) }
 
 -- ---- one turn
 
@@ -66,22 +56,20 @@ module _ (n ns : ℕ) (starts rows firsts own from' list : List ℕ) (g : Laid n
   starts_at j h = g.from_is.at j (let z : j < suc ns = omega arith in z)
 
   pub record Opens : Type 0 where
-    pub in_first : k + 1 < length firsts
-    pub in_from : k + 1 < length from'
-    pub rise : get_or firsts k 0 ≤ get_or firsts (k + 1) 0
-    pub sum_to : get_or from' k 0 + (get_or firsts (k + 1) 0 - get_or firsts k 0) ≤ get_or from' (k + 1) 0
-    pub end_to : get_or from' (k + 1) 0 ≤ length list
+    pub past : Past firsts from' list k
     pub base : get_or from' k 0 ≡ get_or (shaped n starts rows).starts k 0
     pub next : get_or from' (k + 1) 0 ≡ get_or (shaped n starts rows).starts k 0 + height (shaped n starts rows) k
     pub place : Place (shaped n starts rows) k (get_or from' k 0 + (get_or firsts (k + 1) 0 - get_or firsts k 0))
 
   pub opens : Opens
   opens = record {
-    in_first = omega (arith, g.first-is.fits);
-    in_from = omega (arith, g.from_is.fits);
-    rise = omega (arith, f0, f1, m.built.rise k kn);
-    sum_to = omega (arith, f0, f1, r0, r1, m.built.tall k kn, m.next k kn);
-    end_to = omega (arith, r1, m.within (suc k) kn, g.list_is.fits);
+    past = record {
+      in_firsts = omega (arith, g.first-is.fits);
+      in_starts = omega (arith, g.from_is.fits);
+      rise = omega (arith, f0, f1, m.built.rise k kn);
+      to = omega (arith, f0, f1, r0, r1, m.built.tall k kn, m.next k kn);
+      end = omega (arith, r1, m.within (suc k) kn, g.list_is.fits);
+    };
     base = r0;
     next = r1 ∙ m.next k kn;
     place = record {
@@ -143,7 +131,7 @@ module _ (n ns : ℕ) (starts rows firsts own from' list : List ℕ) (g : Laid n
 
     pub turn : Turn (get_or own (get_or list p 0) 0)
     turn = record {
-      in_list = omega (arith, opens.end_to);
+      in_list = omega (arith, opens.past.end);
       in_own = omega (arith, row_is, row_in, g.own_is.fits);
       is = target_is;
       in_nodes = omega (arith, target_is, t_in);
@@ -201,6 +189,14 @@ pub record Counting (S : Shape) (k : ℕ) (c₀ counts : List ℕ) (p : ℕ) : T
   pub is : (j : ℕ) → j < supernodes S → get_or counts j 0 ≡ met S k place.t j
   pub same_len : length counts ≡ length c₀
 
+-- what a turn from p reads, where there is one
+pub record Ahead (list own firsts counts : List ℕ) (p e : ℕ) : Type 0 where
+  pub end_to : e ≤ length list
+  pub in_own : p < e → get_or list p 0 < length own
+  pub in_counts : p < e → get_or own (get_or list p 0) 0 < length counts
+  pub in_first : p < e → get_or own (get_or list p 0) 0 + 1 < length firsts
+  pub few : p < e → get_or counts (get_or own (get_or list p 0) 0) 0 ≤ length counts
+
 pub bit_to : (b : Bool) → bit b ≤ 1
 bit_to true = le_refl 1
 bit_to false = omega arith
@@ -236,8 +232,8 @@ module _ (n ns : ℕ) (starts rows firsts own from' list : List ℕ) (g : Laid n
       tl : get_or own (get_or list p 0) 0 < supernodes (shaped n starts rows)
       tl = omega (arith, tn.in_nodes, g.number)
 
-      pub counting_reads : (p < length list) × (get_or list p 0 < length own) × (get_or own (get_or list p 0) 0 < length counts) × (get_or own (get_or list p 0) 0 + 1 < length firsts) × (get_or counts (get_or own (get_or list p 0) 0) 0 ≤ length counts)
-      counting_reads = (tn.in_list, tn.in_own, omega (arith, tl, w.room), tn.in_first, omega (arith, w.is _ tl, met_to Q k w.place.t (get_or own (get_or list p 0) 0), kk, w.room))
+      counting_reads : (get_or list p 0 < length own) × (get_or own (get_or list p 0) 0 < length counts) × (get_or own (get_or list p 0) 0 + 1 < length firsts) × (get_or counts (get_or own (get_or list p 0) 0) 0 ≤ length counts)
+      counting_reads = (tn.in_own, omega (arith, tl, w.room), tn.in_first, omega (arith, w.is _ tl, met_to Q k w.place.t (get_or own (get_or list p 0) 0), kk, w.room))
 
       pub counting_more : {q : ℕ} → RunEnd list p (get_or from' (k + 1) 0) (get_or firsts (get_or own (get_or list p 0) 0 + 1) 0) q
           → Counting (shaped n starts rows) k c₀ (set counts (get_or own (get_or list p 0) 0) (get_or counts (get_or own (get_or list p 0) 0) 0 + 1)) q
@@ -259,3 +255,15 @@ module _ (n ns : ℕ) (starts rows firsts own from' list : List ℕ) (g : Laid n
 
     pub counting_over : get_or from' (k + 1) 0 ≤ p → Counted (shaped n starts rows) (suc k) counts
     counting_over h = record { room = w.room; is = λ j a. w.is j a ∙ Scans.scan_over Q mm k kk w.place.t w.place.x w.place.scan (omega (arith, w.place.at, (opens n ns starts rows firsts own from' list g k kl).next)) j a }
+
+    pub counting_ahead : Counting (shaped n starts rows) k c₀ counts p × Ahead list own firsts counts p (get_or from' (k + 1) 0)
+    counting_ahead = (
+      w,
+      record {
+        end_to = (opens n ns starts rows firsts own from' list g k kl).past.end;
+        in_own = λ h. (counting_reads h).0;
+        in_counts = λ h. (counting_reads h).1;
+        in_first = λ h. (counting_reads h).2;
+        few = λ h. (counting_reads h).3;
+      },
+    )

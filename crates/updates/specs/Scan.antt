@@ -1,5 +1,5 @@
 -- What the scan for updates reads, and what it keeps. Definitions only.
-use Rattle.std.specs.Prelude.{◌≡◌, Bool, ◌&&◌, List, ℕ, suc, ◌+◌, ◌≤◌, ◌<◌, ltb, leb, length, get_or}
+use Rattle.std.specs.Prelude.{◌≡◌, Bool, ◌&&◌, List, ℕ, suc, ◌+◌, ◌-◌, ◌≤◌, ◌<◌, ltb, leb, length, get_or}
 use Rattle.statement.specs.Lists.{bit, tally}
 use Rattle.statement.specs.Input.{Columns, columns_limit, stored}
 use Rattle.statement.specs.Shape.{Shape, supernodes, first, rows_of}
@@ -35,6 +35,14 @@ pub record Laid (n ns : ℕ) (starts rows firsts own from list : List ℕ) : Typ
   pub own_is : Holds (owner (shaped n starts rows).firsts) n own
   pub from_is : Holds (λ K. get_or (shaped n starts rows).starts K 0) (suc ns) from
   pub list_is : Holds (λ i. get_or (shaped n starts rows).rows i 0) (length (shaped n starts rows).rows) list
+
+-- supernode k's rows begin with its own columns
+pub record Past (firsts starts rows : List ℕ) (k : ℕ) : Type 0 where
+  pub in_firsts : k + 1 < length firsts
+  pub in_starts : k + 1 < length starts
+  pub rise : get_or firsts k 0 ≤ get_or firsts (k + 1) 0
+  pub to : get_or starts k 0 + (get_or firsts (k + 1) 0 - get_or firsts k 0) ≤ get_or starts (k + 1) 0
+  pub end : get_or starts (k + 1) 0 ≤ length rows
 
 -- q is the first position from p whose row is not below bound, or e
 pub record RunEnd (list : List ℕ) (p e bound q : ℕ) : Type 0 where

@@ -1,124 +1,86 @@
-// The updates: for each supernode, the lower ones that have rows among its columns. The input names the structure only.
+// The updates: for each supernode, the lower ones that have rows among its columns. The matrix names the structure only.
 #![tactic(auto)]
 
-ghost use Rattle.std.specs.Prelude.{◌≡◌, ◌++◌, suc, ◌+◌, ◌^◌, ◌≤◌, ◌<◌, length, get_or, drop};
+ghost use Rattle.std.specs.Prelude.{◌≡◌, ◌++◌, suc, ◌+◌, ◌-◌, ◌^◌, ◌≤◌, ◌<◌, length, get_or, drop};
 ghost use Rattle.statement.specs.Supernodes.{updates_of, updates, update_starts};
 ghost use Rattle.areas.specs.Buckets.{Holds};
-ghost use Rattle.updates.specs.Scan.{shaped, Laid, RunEnd, Counted};
+ghost use Rattle.updates.specs.Scan.{shaped, Laid, Past, RunEnd, Counted};
 ghost use Rattle.updates.specs.Layout.{places_at, offsets_at};
 ghost use Rattle.updates.specs.Laying.{spotted, ToScan, Scanned};
 
-use areas::fill_part;
 use areas::sums::sums;
+use views::{Columns, Matrix, Structure};
 
 // The first position from p, below e, whose row is not below bound; or e.
 fn run_end(list: &[usize], p: usize, e: usize, bound: usize) -> usize
     requires { (p ≤ e) × (e ≤ length list.now) }
     ensures { RunEnd list.now p e bound result }
 {
-    let mut q = p;
-    while q < e {
+    // With `position` it stays open that the rows before the answer are below bound.
+    for q in p..e {
         if list[q] >= bound {
             return q;
         }
-        q += 1;
     }
-    q
+    e
 }
 
-// Supernode k's updates, counted.
-fn count_one(
-    n: usize,
-    ns: usize,
-    input_starts: &[usize],
-    input_rows: &[usize],
-    firsts: &[usize],
-    own: &[usize],
-    from: &[usize],
-    list: &[usize],
-    k: usize,
-    counts: &mut [usize],
-)
-    requires k_lt_ns { (k < ns) × Laid n ns input_starts.now input_rows.now firsts.now own.now from.now list.now }
-    requires counted { Counted (shaped n input_starts.now input_rows.now) k counts.old }
-    ensures { Counted (shaped n input_starts.now input_rows.now) (suc k) counts.new }
+// Where supernode k's rows past its own columns begin.
+fn past(structure: &Structure<'_>, k: usize) -> usize
+    requires { Past structure.now.firsts.now structure.now.starts.now structure.now.rows.now k }
+    ensures { result ≡ get_or structure.now.starts.now k 0 + (get_or structure.now.firsts.now (k + 1) 0 - get_or structure.now.firsts.now k 0) }
 {
-    let mut p = from[k] + (firsts[k + 1] - firsts[k]);
-    let e = from[k + 1];
-    while p < e {
-        let r = list[p];
-        let j = own[r];
-        counts[j] = counts[j] + 1;
-        p = run_end(list, p, e, firsts[j + 1]);
-    }
+    structure.starts[k] + (structure.firsts[k + 1] - structure.firsts[k])
 }
 
-// How many updates each of the ns supernodes has.
-fn count_all(
-    n: usize,
-    ns: usize,
-    input_starts: &[usize],
-    input_rows: &[usize],
-    firsts: &[usize],
-    own: &[usize],
-    from: &[usize],
-    list: &[usize],
-    counts: &mut [usize],
-)
-    requires laid { Laid n ns input_starts.now input_rows.now firsts.now own.now from.now list.now }
-    requires ns_in_bounds { ns ≤ length counts.old }
-    ensures { Holds (λ J. length (updates_of (shaped n input_starts.now input_rows.now) J)) ns counts.new }
-{
-    fill_part(ns, 0, counts);
-    let mut k = 0;
-    while k < ns {
-        count_one(
-            n,
-            ns,
-            input_starts,
-            input_rows,
-            firsts,
-            own,
-            from,
-            list,
-            k,
-            counts,
-        );
-        k += 1;
-    }
+// The supernodes of a matrix: how many, their first columns and rows, and the supernode that owns each column.
+#[derive(Clone, Copy)]
+pub struct Supernodes<'a> {
+    pub matrix: Columns<'a>,
+    pub ns: usize,
+    pub structure: Structure<'a>,
+    pub owners: &'a [usize],
+    ghost laid: { Laid matrix.n ns matrix.starts.now matrix.rows.now structure.firsts.now owners.now structure.starts.now structure.rows.now },
 }
 
-// Where the updates of each target start; how many there are.
-pub fn update_starts(
-    n: usize,
-    ns: usize,
-    input_starts: &[usize],
-    input_rows: &[usize],
-    firsts: &[usize],
-    own: &[usize],
-    from: &[usize],
-    list: &[usize],
-    counts: &mut [usize],
-    to: &mut [usize],
-) -> usize
-    requires laid { Laid n ns input_starts.now input_rows.now firsts.now own.now from.now list.now }
-    requires ns_in_bounds { (ns ≤ length counts.old) × (ns < length to.old) }
-    ensures value { result ≡ length (updates (shaped n input_starts.now input_rows.now)) }
-    ensures to_after { to.new ≡ update_starts (shaped n input_starts.now input_rows.now) ++ drop (suc ns) to.old }
-{
-    count_all(
-        n,
-        ns,
-        input_starts,
-        input_rows,
-        firsts,
-        own,
-        from,
-        list,
-        counts,
-    );
-    sums(ns, counts, to);
-    to[ns]
+impl Supernodes<'_> {
+    // Supernode k's updates, counted.
+    fn count_one(&self, k: usize, counts: &mut [usize])
+        requires k_lt_ns { k < self.now.ns }
+        requires counted { Counted (shaped self.now.matrix.n self.now.matrix.starts.now self.now.matrix.rows.now) k counts.old }
+        ensures { Counted (shaped self.now.matrix.n self.now.matrix.starts.now self.now.matrix.rows.now) (suc k) counts.new }
+    {
+        let s = &self.structure;
+        let mut p = past(s, k);
+        let e = s.starts[k + 1];
+        while p < e {
+            let j = self.owners[s.rows[p]];
+            counts[j] += 1;
+            p = run_end(s.rows, p, e, s.firsts[j + 1]);
+        }
+    }
+
+    // How many updates each has.
+    fn count_all(&self, counts: &mut [usize])
+        requires { self.now.ns ≤ length counts.old }
+        ensures { Holds (λ J. length (updates_of (shaped self.now.matrix.n self.now.matrix.starts.now self.now.matrix.rows.now) J)) self.now.ns counts.new }
+    {
+        counts[..self.ns].fill(0);
+        for k in 0..self.ns {
+            self.count_one(k, counts);
+        }
+    }
+
+    // Where the updates of each target start; how many there are.
+    pub fn update_starts(&self, counts: &mut [usize], to: &mut [usize]) -> usize
+        requires { (self.now.ns ≤ length counts.old) × (self.now.ns < length to.old) }
+        ensures value { result ≡ length (updates (shaped self.now.matrix.n self.now.matrix.starts.now self.now.matrix.rows.now)) }
+        ensures to_after { to.new ≡ update_starts (shaped self.now.matrix.n self.now.matrix.starts.now self.now.matrix.rows.now) ++ drop (suc self.now.ns) to.old }
+    {
+        self.count_all(counts);
+        sums(self.ns, counts, to);
+        to[self.ns]
+    }
 }
 
 // Run i of a source, of target j: its place in area 10, which is j's next, and its positions.
@@ -136,28 +98,24 @@ fn spot(j: usize, i: usize, a: usize, b: usize, n: usize, words: &mut [usize])
 
 // Supernode k's updates, each spotted: how many there are.
 pub fn scan_one(
-    n: usize,
+    matrix: &Matrix<'_>,
     ns: usize,
-    input_starts: &[usize],
-    input_rows: &[usize],
-    firsts: &[usize],
-    starts: &[usize],
-    rows: &[usize],
+    structure: &Structure<'_>,
     k: usize,
     words: &mut [usize],
 ) -> usize
-    requires { ToScan n ns input_starts.now input_rows.now firsts.now starts.now rows.now k words.old }
-    ensures { Scanned (shaped n input_starts.now input_rows.now) n k words.old words.new result }
+    requires { ToScan matrix.now.n ns matrix.now.starts.now matrix.now.rows.now structure.now.firsts.now structure.now.starts.now structure.now.rows.now k words.old }
+    ensures { Scanned (shaped matrix.now.n matrix.now.starts.now matrix.now.rows.now) matrix.now.n k words.old words.new result }
 {
+    let n = matrix.n;
     let owners = 5 * n + 1;
-    let base = starts[k];
-    let mut p = base + (firsts[k + 1] - firsts[k]);
-    let e = starts[k + 1];
+    let base = structure.starts[k];
+    let mut p = past(structure, k);
+    let e = structure.starts[k + 1];
     let mut i = 0;
     while p < e {
-        let r = rows[p];
-        let j = words[owners + r];
-        let q = run_end(rows, p, e, firsts[j + 1]);
+        let j = words[owners + structure.rows[p]];
+        let q = run_end(structure.rows, p, e, structure.firsts[j + 1]);
         spot(j, i, p - base, q - base, n, words);
         i += 1;
         p = q;

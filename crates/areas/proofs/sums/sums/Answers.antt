@@ -1,6 +1,4 @@
 use Rattle.areas.proofs.Summing.{summing_begin, summing_more, summing_over}
-use lib.ListN.{length-set}
-use Prim.Native.Nat.{◌-◌}
 use native.Mathlib.Omega.{arith}
 use Rattle.areas.proofs.sums.sums.Goals as goal
 
@@ -12,9 +10,6 @@ overflow_add-to c = omega (arith, c.requires.by_index _ c.loop-k-test.true)
 
 pub loop-k-preserved : goal.loop-k-preserved
 loop-k-preserved c = summing_more c.loop-k.invariant c.loop-k-test.true (c.requires.by_index _ c.loop-k-test.true)
-
-pub shape_of-to : goal.shape_of-to
-shape_of-to c = omega (arith, length-set c.args.to.now 0 0)
 
 pub returns : goal.returns
 returns c = summing_over c.args.to.now c.loop-k.invariant c.loop-k-test.false

@@ -1,11 +1,7 @@
 -- `areas::sums::sums` meets its contract: the sums of the first k counts stand at the front. Assumes nothing.
 use Rattle.areas.proofs.Summing.{Summing}
 use lib.ListN.{get_or}
-use Prim.Native.Nat.{◌-◌}
 use Rattle.areas.proofs.sums.sums.Given as goal
 
 abbrev pub invariant-loop-k : goal.invariant-loop-k
 invariant-loop-k l = Summing (λ j. get_or l.counts j 0) l.m l.initial.to l.to l.k
-
-abbrev pub decreases-loop-k : goal.decreases-loop-k
-decreases-loop-k l = l.m - l.k

@@ -1,2 +1,0 @@
--- What the loop over updates keeps.
-pub mod Laws
