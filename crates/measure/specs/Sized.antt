@@ -11,7 +11,6 @@ use Rattle.statement.specs.Calls.{input_fault, factor_needs}
 use Rattle.statement.specs.declared.Answer.{Answer}
 use Rattle.statement.specs.declared.Answer.TheVariants.{Accepted, OverCap}
 use Rattle.statement.specs.declared.Room.{Room}
-use Rattle.measure.specs.declared.Totals.{Totals}
 
 -- 1, 2, 3, 4, 5 (areas 1 to 8), 6
 unfoldable pub measure_fault : Matrix → ℕ → Room → Option Answer
@@ -21,16 +20,12 @@ measure_fault M cap r =
     test (ltb cap (entries (pattern M) M.n)) (OverCap (entries (pattern M) M.n) cap) none))
 
 -- the areas before (₀) and after: parents in top, counts in groups, marks cleared in tasks
-pub record Sized (M : Matrix) (cap : ℕ) (r : Room) (x : Totals) (groups₀ tasks₀ top₀ groups tasks top : List ℕ) : Type 0 where
+pub record Sized (M : Matrix) (cap : ℕ) (r : Room) (entries' work' : ℕ) (groups₀ tasks₀ top₀ groups tasks top : List ℕ) : Type 0 where
   pub calm : measure_fault M cap r ≡ none
   pub well : WellFormed M
   pub room : short (factor_needs M r) ≡ none
-  pub entries : x.entries ≡ entries (pattern M) M.n
-  pub work : x.work ≡ sum (λ j. count (pattern M) M.n j * count (pattern M) M.n j) M.n
+  pub entries : entries' ≡ entries (pattern M) M.n
+  pub work : work' ≡ sum (λ j. count (pattern M) M.n j * count (pattern M) M.n j) M.n
   pub four : groups ≡ list (count (pattern M) M.n) M.n ++ drop M.n groups₀
   pub five : tasks ≡ replicate M.n 0 ++ drop M.n tasks₀
   pub six : top ≡ list (parent (pattern M) M.n) M.n ++ drop M.n top₀
-
-pub record Measured (M : Matrix) (cap : ℕ) (r : Room) (x : Totals) (groups₀ tasks₀ top₀ groups tasks top : List ℕ) : Type 0 where
-  pub ans : x.answer ≡ answered (measure_fault M cap r)
-  pub go : x.answer ≡ Accepted → Sized M cap r x groups₀ tasks₀ top₀ groups tasks top

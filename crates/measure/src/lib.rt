@@ -2,65 +2,49 @@
 // and the counts are found.
 #![tactic(auto)]
 
-ghost use Rattle.std.specs.Prelude.{◌≡◌, length};
-ghost use Rattle.statement.specs.Input.{matrix};
-ghost use Rattle.measure.specs.Sized.{Measured};
+ghost use Rattle.std.specs.Prelude.{◌≡◌, length, IfOk, IfErr};
+ghost use Rattle.std.proofs.Math.Option.{some};
+ghost use Rattle.measure.specs.Sized.{measure_fault, Sized};
+ghost use Rattle.views.specs.Shown.{matrix_of, ColumnsOf};
 
 use input::check;
 use room::scratch;
 use statement::{Answer, Room};
 use tree::{entries, tree_and_counts, work};
+use views::{Columns, Matrix};
 
-// The answer so far, and the record's entries and work figure.
+// A matrix that passes: its columns, the entries of L, and the work figure.
 #[derive(Clone, Copy)]
-pub struct Totals {
-    pub answer: Answer,
+pub struct Measured<'a> {
+    pub columns: Columns<'a>,
     pub entries: usize,
     pub work: usize,
 }
 
-fn stop(answer: Answer) -> Totals
-    ensures { result.answer ≡ answer }
-{
-    Totals {
-        answer,
-        entries: 0,
-        work: 0,
-    }
-}
-
-// Where it is accepted, top has the parents of the columns and groups their counts.
-pub fn measure(
-    n: usize,
-    input_starts: &[usize],
-    input_rows: &[usize],
-    input_values: &[f64],
+// Where it passes, top has the parents of the columns and groups their counts.
+pub fn measure<'a>(
+    matrix: &Matrix<'a>,
     cap: usize,
     room: Room,
     groups: &mut [usize],
     tasks: &mut [usize],
     top: &mut [usize],
-) -> Totals
+) -> Result<Measured<'a>, Answer>
     requires { (room.groups ≡ length groups.old) × (room.tasks ≡ length tasks.old) × (room.top ≡ length top.old) }
-    ensures { Measured (matrix n input_starts.now input_rows.now input_values.now) cap room result groups.old tasks.old top.old groups.new tasks.new top.new }
+    ensures passed { IfOk result (λ x. ColumnsOf matrix.now x.columns × Sized (matrix_of matrix.now) cap room x.entries x.work groups.old tasks.old top.old groups.new tasks.new top.new) }
+    ensures refused { IfErr result (λ a. measure_fault (matrix_of matrix.now) cap room ≡ some a) }
 {
-    let a = check(n, input_starts, input_rows, input_values);
-    let Answer::Accepted = a else {
-        return stop(a);
-    };
-    let s = scratch(n, input_rows.len(), room);
-    let Answer::Accepted = s else {
-        return stop(s);
-    };
-    tree_and_counts(n, input_starts, input_rows, top, groups, tasks);
-    let e = entries(n, groups);
-    if cap < e {
-        return stop(Answer::OverCap { entries: e, cap });
+    let columns = check(matrix)?;
+    let n = matrix.n;
+    scratch(n, matrix.rows.len(), room)?;
+    tree_and_counts(&columns, top, groups, tasks);
+    let entries = entries(n, groups);
+    if cap < entries {
+        return Err(Answer::OverCap { entries, cap });
     }
-    let w = work(n, groups);
-    Totals {
-        answer: Answer::Accepted,
-        entries: e,
-        work: w,
-    }
+    Ok(Measured {
+        columns,
+        entries,
+        work: work(n, groups),
+    })
 }

@@ -19,5 +19,7 @@ abbrev pub areas_of : Factor → FactorAreas
 areas_of f = lent f.permutation.now f.firsts.now f.starts.now f.rows.now f.values.now
 
 -- the columns are the matrix's
-abbrev pub ColumnsOf : Matrix → Columns → Type 0
-ColumnsOf m c = (c.n ≡ m.n) × (c.starts.now ≡ m.starts.now) × (c.rows.now ≡ m.rows.now)
+pub record ColumnsOf (m : Matrix) (c : Columns) : Type 0 where
+  pub n : c.n ≡ m.n
+  pub starts : c.starts.now ≡ m.starts.now
+  pub rows : c.rows.now ≡ m.rows.now

@@ -31,4 +31,4 @@ pub invariant_of-result : goal.invariant_of-result
 invariant_of-result c = record { valid = (accepted _ c.if-matrix-gt-COLUMNS_LIMIT.false c.if-matrix-gt-ROWS_LIMIT.false c.if-matrix.false c.if-matrix-2.false _ refl (past_first _ _ c.in_default.ensures) _ refl (past_first _ _ c.in_default-first_column.ensures)).columns }
 
 pub returns-clause-passed : goal.returns-clause-passed
-returns-clause-passed c = (accepted _ c.if-matrix-gt-COLUMNS_LIMIT.false c.if-matrix-gt-ROWS_LIMIT.false c.if-matrix.false c.if-matrix-2.false _ refl (past_first _ _ c.in_default.ensures) _ refl (past_first _ _ c.in_default-first_column.ensures), refl, refl, refl)
+returns-clause-passed c = (accepted _ c.if-matrix-gt-COLUMNS_LIMIT.false c.if-matrix-gt-ROWS_LIMIT.false c.if-matrix.false c.if-matrix-2.false _ refl (past_first _ _ c.in_default.ensures) _ refl (past_first _ _ c.in_default-first_column.ensures), record { n = refl; starts = refl; rows = refl })

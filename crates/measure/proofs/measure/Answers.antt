@@ -1,125 +1,82 @@
 -- `measure::measure` meets its contract: the tests in order, each after those before it have passed. Assumes nothing.
-use Rattle.measure.proofs.Stages.{at_input, well, at_room, enough, at_cap, past_cap, long, stopped}
-use Rattle.tree.proofs.Totals.{counts_to, entries_are, work_is}
-use Rattle.statement.specs.Answers.{number}
-use Rattle.laws.specs.Answered.{answered}
-use Rattle.statement.specs.Calls.{factor_needs}
-use Rattle.statement.specs.Input.{matrix, pattern}
+use Rattle.std.specs.Prelude.{◌++◌}
+use lib.ListN.{drop, replicate}
+use mathlib.Core.Path.{◌≡◌, ◌∙◌}
 use native.Mathlib.Omega.{arith}
-use mathlib.Core.Path.{sym, ap, ◌∙◌}
+use Rattle.statement.specs.Lists.{list}
+use Rattle.statement.specs.Input.{stored, pattern}
+use Rattle.statement.specs.Fill.{parent, count}
+use Rattle.statement.specs.Calls.{factor_needs}
+use Rattle.laws.proofs.Passed.{exit_is, passed_none, passed_some}
+use Rattle.tree.proofs.Totals.{counts_to, entries_are, work_is}
+use Rattle.views.specs.Shown.{matrix_of}
+use Rattle.views.proofs.Carried.{carried}
+use Rattle.measure.proofs.Stages.{at_input, at_room, at_cap, past_cap, long}
 use Rattle.measure.proofs.measure.Goals as goal
 
-pub returns-in_default : goal.returns-in_default
-returns-in_default c =
-    let args' = c.args in
-    let check' = c.check-a in
-    let stop' = c.stop in
-    let match' = c.in_default in
-    let M = matrix args'.n args'.input_starts.now args'.input_rows.now args'.input_values.now in
-    let e = check'.ensures.value in
-    stopped M args'.cap args'.room _ _ stop'.ensures (λ q. match'.not-Accepted q) (e ∙ at_input M _ _ (λ q. match'.not-Accepted (e ∙ q)))
+pub returns-in_err-columns-clause-refused : goal.returns-in_err-columns-clause-refused
+returns-in_err-columns-clause-refused c = rw (exit_is c.from_residual.ensures.1) (at_input _ _ _ c.in_err-columns.ensures.refused)
 
-pub scratch-s-requires : goal.scratch-s-requires
-scratch-s-requires c =
-    let args' = c.args in
-    let check' = c.check-a in
-    let enum-told' = c.in-Accepted in
-    let M = matrix args'.n args'.input_starts.now args'.input_rows.now args'.input_values.now in
-    let w = well M args'.cap args'.room (sym check'.ensures.value ∙ enum-told'.is) in
-    (w.small, w.few)
-
-pub returns-in_default-s : goal.returns-in_default-s
-unfolding factor_needs answered
-returns-in_default-s c =
-    let args' = c.args in
-    let check' = c.check-a in
-    let enum-told' = c.in-Accepted in
-    let scratch' = c.scratch-s in
-    let stop2' = c.stop-in_default-s in
-    let match2' = c.in_default-s in
-    let M = matrix args'.n args'.input_starts.now args'.input_rows.now args'.input_values.now in
-    let a = sym check'.ensures.value ∙ enum-told'.is in
-    let e = scratch'.ensures in
-    stopped M args'.cap args'.room _ _ stop2'.ensures (λ q. match2'.not-Accepted q) (e ∙ at_room M _ _ a (λ q. match2'.not-Accepted (e ∙ q)))
+pub returns-in_err-scratch-clause-refused : goal.returns-in_err-scratch-clause-refused
+unfolding factor_needs
+returns-in_err-scratch-clause-refused c = rw (exit_is c.from_residual-in_err-scratch.ensures.1) (at_room (matrix_of c.args.matrix.now) _ _ c.in_ok-columns.ensures.passed.0 (passed_some _ c.in_err-scratch.ensures))
 
 pub tree_and_counts-requires : goal.tree_and_counts-requires
-unfolding factor_needs answered
+unfolding factor_needs
 tree_and_counts-requires c =
-    let args' = c.args in
-    let check' = c.check-a in
-    let enum-told' = c.in-Accepted in
-    let scratch' = c.scratch-s in
-    let enum-told2' = c.in-Accepted-s in
-    let pre' = c.requires in
-    let M = matrix args'.n args'.input_starts.now args'.input_rows.now args'.input_values.now in
-    let a = sym check'.ensures.value ∙ enum-told'.is in
-    let w = well M args'.cap args'.room a in
-    let l = long M args'.cap args'.room a (sym scratch'.ensures ∙ enum-told2'.is) in record { columns = w.columns; n_in_bounds = (omega (arith, l.2, pre'), omega (arith, l.0, pre'), omega (arith, l.1, pre')) }
+    let e = c.in_ok-columns.ensures.passed in
+    let l = long (matrix_of c.args.matrix.now) c.args.cap c.args.room e.0 (passed_none _ c.in_ok-scratch.ensures) in
+    let q = e.1.n in
+    record { n_in_bounds = (omega (arith, l.2, q), omega (arith, l.0, q), omega (arith, l.1, q)) }
 
-pub entries-e-requires : goal.entries-e-requires
-unfolding factor_needs answered
-entries-e-requires c =
-    let args' = c.args in
-    let check' = c.check-a in
-    let enum-told' = c.in-Accepted in
-    let scratch' = c.scratch-s in
-    let enum-told2' = c.in-Accepted-s in
-    let pre' = c.requires in
-    let tree-and-counts' = c.tree_and_counts in
-    let M = matrix args'.n args'.input_starts.now args'.input_rows.now args'.input_values.now in
-    let a = sym check'.ensures.value ∙ enum-told'.is in
-    let w = well M args'.cap args'.room a in
-    let l = long M args'.cap args'.room a (sym scratch'.ensures ∙ enum-told2'.is) in record { n_bound = (w.small, omega (arith, l.0, pre', tree-and-counts'.auto)); by_index = counts_to (pattern M) args'.n _ _ tree-and-counts'.ensures.counts_after }
+pub entries-entries-requires-clause-n_bound : goal.entries-entries-requires-clause-n_bound
+unfolding factor_needs
+entries-entries-requires-clause-n_bound c =
+    let e = c.in_ok-columns.ensures.passed in
+    let l = long (matrix_of c.args.matrix.now) c.args.cap c.args.room e.0 (passed_none _ c.in_ok-scratch.ensures) in
+    (e.0.small, omega (arith, l.0, c.tree_and_counts.auto))
 
-pub returns-then-cap-e : goal.returns-then-cap-e
-unfolding factor_needs answered
-returns-then-cap-e c =
-    let args' = c.args in
-    let check' = c.check-a in
-    let enum-told' = c.in-Accepted in
-    let scratch' = c.scratch-s in
-    let enum-told2' = c.in-Accepted-s in
-    let entries' = c.entries-e in
-    let tree-and-counts' = c.tree_and_counts in
-    let stop3' = c.stop-then-cap-e in
-    let if1' = c.if-cap-e in
-    let M = matrix args'.n args'.input_starts.now args'.input_rows.now args'.input_values.now in
-    let a = sym check'.ensures.value ∙ enum-told'.is in
-    let b = sym scratch'.ensures ∙ enum-told2'.is in
-    let e = entries'.ensures ∙ entries_are (pattern M) args'.n _ _ tree-and-counts'.ensures.counts_after in
-    stopped M args'.cap args'.room _ _ stop3'.ensures (λ q. omega (arith, ap number q)) (at_cap M _ _ a b _ e if1'.true)
+pub entries-entries-requires-clause-by_index : goal.entries-entries-requires-clause-by_index
+entries-entries-requires-clause-by_index c =
+    counts_to (pattern (matrix_of c.args.matrix.now)) _ _ _ (carried c.in_ok-columns.ensures.passed.1 (λ n s r. c.tree_and_counts.new.counts ≡ list (count (stored s r) n) n ++ drop n c.args.groups.now) c.tree_and_counts.ensures.counts_after)
 
-pub work-w-requires : goal.work-w-requires
-unfolding factor_needs answered
-work-w-requires c =
-    let args' = c.args in
-    let check' = c.check-a in
-    let enum-told' = c.in-Accepted in
-    let scratch' = c.scratch-s in
-    let enum-told2' = c.in-Accepted-s in
-    let pre' = c.requires in
-    let tree-and-counts' = c.tree_and_counts in
-    let M = matrix args'.n args'.input_starts.now args'.input_rows.now args'.input_values.now in
-    let a = sym check'.ensures.value ∙ enum-told'.is in
-    let w = well M args'.cap args'.room a in
-    let l = long M args'.cap args'.room a (sym scratch'.ensures ∙ enum-told2'.is) in record { n_bound = (w.small, omega (arith, l.0, pre', tree-and-counts'.auto)); by_index = counts_to (pattern M) args'.n _ _ tree-and-counts'.ensures.counts_after }
+pub returns-then-cap-entries-clause-refused : goal.returns-then-cap-entries-clause-refused
+unfolding factor_needs
+returns-then-cap-entries-clause-refused c =
+    let e = c.in_ok-columns.ensures.passed in
+    let t = carried e.1 (λ n s r. c.tree_and_counts.new.counts ≡ list (count (stored s r) n) n ++ drop n c.args.groups.now) c.tree_and_counts.ensures.counts_after in
+    at_cap (matrix_of c.args.matrix.now) _ _ e.0 (passed_none _ c.in_ok-scratch.ensures) _ (c.entries-entries.ensures ∙ entries_are (pattern (matrix_of c.args.matrix.now)) _ _ _ t) c.if-cap-entries.true
+
+pub work-requires-clause-n_bound : goal.work-requires-clause-n_bound
+unfolding factor_needs
+work-requires-clause-n_bound c =
+    let e = c.in_ok-columns.ensures.passed in
+    let l = long (matrix_of c.args.matrix.now) c.args.cap c.args.room e.0 (passed_none _ c.in_ok-scratch.ensures) in
+    (e.0.small, omega (arith, l.0, c.tree_and_counts.auto))
+
+pub work-requires-clause-by_index : goal.work-requires-clause-by_index
+work-requires-clause-by_index c =
+    counts_to (pattern (matrix_of c.args.matrix.now)) _ _ _ (carried c.in_ok-columns.ensures.passed.1 (λ n s r. c.tree_and_counts.new.counts ≡ list (count (stored s r) n) n ++ drop n c.args.groups.now) c.tree_and_counts.ensures.counts_after)
 
 pub returns : goal.returns
-unfolding factor_needs answered
+unfolding factor_needs
 returns c =
-    let args' = c.args in
-    let check' = c.check-a in
-    let enum-told' = c.in-Accepted in
-    let scratch' = c.scratch-s in
-    let enum-told2' = c.in-Accepted-s in
-    let tree-and-counts' = c.tree_and_counts in
-    let entries' = c.entries-e in
-    let if1' = c.if-cap-e in
-    let work' = c.work-w in
-    let M = matrix args'.n args'.input_starts.now args'.input_rows.now args'.input_values.now in
-    let a = sym check'.ensures.value ∙ enum-told'.is in
-    let b = sym scratch'.ensures ∙ enum-told2'.is in
-    let t = tree-and-counts'.ensures in
-    let e = entries'.ensures ∙ entries_are (pattern M) args'.n _ _ t.counts_after in
-    let k = past_cap M args'.cap args'.room a b _ e if1'.false in
-    record { ans = ap answered (sym k); go = λ q. record { calm = k; well = well M args'.cap args'.room a; room = enough M args'.cap args'.room a b; entries = e; work = work'.ensures ∙ work_is (pattern M) args'.n _ _ t.counts_after; four = t.counts_after; five = t.marks_after; six = t.parents_after } }
+    let M = matrix_of c.args.matrix.now in
+    let e = c.in_ok-columns.ensures.passed in
+    let a = passed_none _ c.in_ok-scratch.ensures in
+    let k = c.tree_and_counts.ensures in
+    let t = carried e.1 (λ n s r. c.tree_and_counts.new.counts ≡ list (count (stored s r) n) n ++ drop n c.args.groups.now) k.counts_after in
+    let n = c.entries-entries.ensures ∙ entries_are (pattern M) _ _ _ t in
+    record {
+      passed = (e.1, record {
+        calm = past_cap M c.args.cap c.args.room e.0 a _ n c.if-cap-entries.false;
+        well = e.0;
+        room = a;
+        entries = n;
+        work = c.work.ensures ∙ work_is (pattern M) _ _ _ t;
+        four = t;
+        five = carried e.1 (λ n s r. c.tree_and_counts.new.marks ≡ replicate n 0 ++ drop n c.args.tasks.now) k.marks_after;
+        six = carried e.1 (λ n s r. c.tree_and_counts.new.parents ≡ list (parent (stored s r) n) n ++ drop n c.args.top.now) k.parents_after;
+      });
+      refused = tt;
+    }
