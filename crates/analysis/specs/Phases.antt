@@ -7,9 +7,7 @@ use Rattle.statement.specs.Postorder as postorder
 use Rattle.statement.specs.Shape.{supernodes}
 use Rattle.statement.specs.Supernodes as supernodal
 use Rattle.statement.specs.Areas.{Need, rows_need, updates_need, values_need, short}
-use Rattle.laws.specs.Answered.{answered}
-use Rattle.statement.specs.declared.Answer.{Answer}
-use Rattle.statement.specs.declared.Answer.TheVariants.{Accepted}
+use Rattle.std.proofs.Math.Option.{none}
 use Rattle.statement.specs.declared.Room.{Room}
 use Rattle.laws.specs.Numbered.{shape}
 use Rattle.laws.proofs.Postorder.{pos}
@@ -46,11 +44,11 @@ pub record Placed (n ns : ℕ) (input_starts input_rows permutation firsts start
 abbrev pub later_needs : (ℕ → ℕ → Bool) → ℕ → ℕ → Room → List Need
 later_needs s n entries r = (rows_need (length (shape s n).rows) r ∷ updates_need (length (supernodal.updates (shape s n))) r ∷ []) ++ (values_need entries r ∷ [])
 
--- what is answered; and where that is `Accepted`, the numbers of supernodes, rows and updates, and each area but top, with the supernode of each column in the words
-pub record Analysed (s : ℕ → ℕ → Bool) (n entries : ℕ) (r : Room) (answer : Answer) (ns rows updates : ℕ) (permutation₀ firsts₀ starts₀ groups₀ tasks₀ nine₀ : List ℕ)
+-- areas 9 to 11 are long enough: the numbers of supernodes, rows and updates, and each area but top, with the supernode of each column in the words
+pub record Analysed (s : ℕ → ℕ → Bool) (n entries : ℕ) (r : Room) (ns rows updates : ℕ) (permutation₀ firsts₀ starts₀ groups₀ tasks₀ nine₀ : List ℕ)
     (permutation firsts starts groups tasks words nine : List ℕ) : Type 0 where
-  pub answers : answer ≡ answered (short (later_needs s n entries r))
-  pub numbered : answer ≡ Accepted → Numbered s n ns rows permutation₀ firsts₀ starts₀ tasks₀ permutation firsts starts tasks words
-  pub count : answer ≡ Accepted → updates ≡ length (supernodal.updates (shape s n))
-  pub four : answer ≡ Accepted → groups ≡ supernodal.update_starts (shape s n) ++ drop (suc ns) (replicate (length groups₀) 0)
-  pub area_nine : answer ≡ Accepted → nine ≡ (shape s n).rows ++ drop (length (shape s n).rows) nine₀
+  pub calm : short (later_needs s n entries r) ≡ none
+  pub numbered : Numbered s n ns rows permutation₀ firsts₀ starts₀ tasks₀ permutation firsts starts tasks words
+  pub count : updates ≡ length (supernodal.updates (shape s n))
+  pub four : groups ≡ supernodal.update_starts (shape s n) ++ drop (suc ns) (replicate (length groups₀) 0)
+  pub area_nine : nine ≡ (shape s n).rows ++ drop (length (shape s n).rows) nine₀

@@ -2,23 +2,22 @@
 // supernodes, their rows and where the updates start.
 #![tactic(auto)]
 
-ghost use Rattle.std.specs.Prelude.{◌≡◌, false, [], ◌∷◌, ◌++◌, suc, ◌≤◌, ◌<◌, length, take, drop, replicate};
-ghost use Rattle.std.proofs.Math.Option.{none};
-ghost use Rattle.statement.specs.Input.{Columns, stored};
+ghost use Rattle.std.specs.Prelude.{◌≡◌, false, [], ◌∷◌, ◌++◌, suc, ◌≤◌, ◌<◌, length, take, drop, replicate, IfOk, IfErr};
+ghost use Rattle.std.proofs.Math.Option.{none, some};
+ghost use Rattle.statement.specs.Input.{stored};
 ghost use Rattle.statement.specs.Fill.{parent, count};
 ghost use Rattle.statement.specs.Lists.{list};
 ghost use Rattle.statement.specs.Supernodes.{updates, update_starts};
 ghost use Rattle.laws.specs.Numbered.{shape};
 ghost use Rattle.statement.specs.Areas.{rows_need, updates_need, values_need, short};
 ghost use Rattle.statement.specs.Answers.{or_else, test};
-ghost use Rattle.laws.specs.Answered.{answered};
-ghost use Rattle.analysis.specs.Phases.{Enough, Numbered, Placed, Analysed};
+ghost use Rattle.laws.specs.Answered.{passed};
+ghost use Rattle.analysis.specs.Phases.{Enough, Numbered, Placed, Analysed, later_needs};
 
-use areas::clear_words;
 use numbering::numbering;
 use statement::{Answer, Room};
-use structure::{node_starts, structure};
-use updates::update_starts;
+use structure::{Numbering, Supernodes, node_starts, structure};
+use views::{Columns, Structure};
 
 // The numbers of supernodes and of structure rows.
 #[derive(Clone, Copy)]
@@ -34,10 +33,9 @@ struct Found {
     differs: bool,
 }
 
-// What the analysis answers, and what it counted.
+// What the analysis counted.
 #[derive(Clone, Copy)]
 pub struct Counts {
-    pub answer: Answer,
     pub supernodes: usize,
     pub rows: usize,
     pub updates: usize,
@@ -46,9 +44,7 @@ pub struct Counts {
 // The permutation, the first columns, the row starts and the supernodal parents. The parents are in top and the counts in
 // groups before; tasks has the places and then the supernodal parents, words the supernode of each column.
 fn numbered(
-    n: usize,
-    input_starts: &[usize],
-    input_rows: &[usize],
+    matrix: &Columns<'_>,
     permutation: &mut [usize],
     firsts: &mut [usize],
     starts: &mut [usize],
@@ -57,15 +53,13 @@ fn numbered(
     top: &mut [usize],
     words: &mut [usize],
 ) -> Sizes
-    requires columns { (Columns n input_starts.now input_rows.now) × (n ≤ 32768) }
-    requires enough { Enough n permutation.old firsts.old starts.old groups.old tasks.old top.old words.old }
-    requires top_value { (take n top.old ≡ list (parent (stored input_starts.now input_rows.now) n) n) × (take n groups.old ≡ list (count (stored input_starts.now input_rows.now) n) n) }
-    ensures { Numbered (stored input_starts.now input_rows.now) n result.supernodes result.rows permutation.old firsts.old starts.old tasks.old permutation.new firsts.new starts.new tasks.new words.new }
+    requires small { matrix.now.n ≤ 32768 }
+    requires enough { Enough matrix.now.n permutation.old firsts.old starts.old groups.old tasks.old top.old words.old }
+    requires top_value { (take matrix.now.n top.old ≡ list (parent (stored matrix.now.starts.now matrix.now.rows.now) matrix.now.n) matrix.now.n) × (take matrix.now.n groups.old ≡ list (count (stored matrix.now.starts.now matrix.now.rows.now) matrix.now.n) matrix.now.n) }
+    ensures { Numbered (stored matrix.now.starts.now matrix.now.rows.now) matrix.now.n result.supernodes result.rows permutation.old firsts.old starts.old tasks.old permutation.new firsts.new starts.new tasks.new words.new }
 {
     let ns = numbering(
-        n,
-        input_starts,
-        input_rows,
+        matrix,
         permutation,
         firsts,
         starts,
@@ -74,18 +68,12 @@ fn numbered(
         top,
         words,
     );
-    let rows = node_starts(
-        n,
-        ns,
-        input_starts,
-        input_rows,
+    let supernodes = Supernodes {
+        matrix: *matrix,
+        number: ns,
         firsts,
-        groups,
-        top,
-        words,
-        starts,
-        tasks,
-    );
+    };
+    let rows = node_starts(&supernodes, groups, top, words, starts, tasks);
     Sizes {
         supernodes: ns,
         rows,
@@ -94,10 +82,8 @@ fn numbered(
 
 // The rows of the supernodes, and where the updates of each start. top is scratch, and groups until then.
 fn filled(
-    n: usize,
+    matrix: &Columns<'_>,
     ns: usize,
-    input_starts: &[usize],
-    input_rows: &[usize],
     permutation: &[usize],
     firsts: &[usize],
     starts: &[usize],
@@ -107,77 +93,60 @@ fn filled(
     words: &[usize],
     rows: &mut [usize],
 ) -> Found
-    requires placed { Placed n ns input_starts.now input_rows.now permutation.now firsts.now starts.now tasks.now words.now }
-    requires ns_in_bounds { (ns < length groups.old) × (ns ≤ length top.old) × (length (shape (stored input_starts.now input_rows.now) n).rows ≤ length rows.old) }
-    ensures updates_value { (result.updates ≡ length (updates (shape (stored input_starts.now input_rows.now) n))) × (result.differs ≡ false) }
-    ensures groups_after { groups.new ≡ update_starts (shape (stored input_starts.now input_rows.now) n) ++ drop (suc ns) (replicate (length groups.old) 0) }
-    ensures rows_after { rows.new ≡ (shape (stored input_starts.now input_rows.now) n).rows ++ drop (length (shape (stored input_starts.now input_rows.now) n).rows) rows.old }
+    requires placed { Placed matrix.now.n ns matrix.now.starts.now matrix.now.rows.now permutation.now firsts.now starts.now tasks.now words.now }
+    requires ns_in_bounds { (ns < length groups.old) × (ns ≤ length top.old) × (length (shape (stored matrix.now.starts.now matrix.now.rows.now) matrix.now.n).rows ≤ length rows.old) }
+    ensures updates_value { (result.updates ≡ length (updates (shape (stored matrix.now.starts.now matrix.now.rows.now) matrix.now.n))) × (result.differs ≡ false) }
+    ensures groups_after { groups.new ≡ update_starts (shape (stored matrix.now.starts.now matrix.now.rows.now) matrix.now.n) ++ drop (suc ns) (replicate (length groups.old) 0) }
+    ensures rows_after { rows.new ≡ (shape (stored matrix.now.starts.now matrix.now.rows.now) matrix.now.n).rows ++ drop (length (shape (stored matrix.now.starts.now matrix.now.rows.now) matrix.now.n).rows) rows.old }
 {
-    let differs = structure(
-        n,
-        ns,
-        input_starts,
-        input_rows,
+    let n = matrix.n;
+    let numbering = Numbering {
+        matrix: *matrix,
         permutation,
-        starts,
-        tasks,
-        words,
-        top,
-        groups,
-        rows,
-    );
-    clear_words(groups);
-    let found = update_starts(
-        n,
+        places: tasks,
+        owners: words,
+        parents: &tasks[n..],
+    };
+    let differs = structure(&numbering, ns, starts, top, groups, rows);
+    groups.fill(0);
+    let supernodes = updates::Supernodes {
+        matrix: *matrix,
         ns,
-        input_starts,
-        input_rows,
-        firsts,
-        words,
-        starts,
-        rows,
-        top,
-        groups,
-    );
-    Found {
-        updates: found,
-        differs,
-    }
+        structure: Structure {
+            n,
+            firsts,
+            starts,
+            rows,
+        },
+        owners: words,
+    };
+    let updates = supernodes.update_starts(top, groups);
+    Found { updates, differs }
 }
 
 // Areas 9 to 11, and then number 12.
-fn verdict(rows: usize, updates: usize, entries: usize, differs: bool, room: Room) -> Answer
-    ensures { result ≡ answered (or_else (short ((rows_need rows room ∷ updates_need updates room ∷ []) ++ (values_need entries room ∷ []))) (test differs Answer.WrongStructure none)) }
+fn verdict(
+    rows: usize,
+    updates: usize,
+    entries: usize,
+    differs: bool,
+    room: Room,
+) -> Result<(), Answer>
+    ensures { result ≡ passed (or_else (short ((rows_need rows room ∷ updates_need updates room ∷ []) ++ (values_need entries room ∷ []))) (test differs Answer.WrongStructure none)) }
 {
-    let r = room::factor(rows, updates, entries, room);
-    let Answer::Accepted = r else {
-        return r;
-    };
+    room::factor(rows, updates, entries, room)?;
     if differs {
-        return Answer::WrongStructure;
+        return Err(Answer::WrongStructure);
     }
-    Answer::Accepted
-}
-
-fn refused(answer: Answer) -> Counts
-    ensures { result.answer ≡ answer }
-{
-    Counts {
-        answer,
-        supernodes: 0,
-        rows: 0,
-        updates: 0,
-    }
+    Ok(())
 }
 
 // The structure of the factor, from the tree in top and the counts in groups; L is to have so many entries. Afterwards words
 // has the supernode of each column, and top is scratch.
 pub fn build(
-    n: usize,
+    matrix: &Columns<'_>,
     entries: usize,
     room: Room,
-    input_starts: &[usize],
-    input_rows: &[usize],
     permutation: &mut [usize],
     firsts: &mut [usize],
     starts: &mut [usize],
@@ -186,17 +155,16 @@ pub fn build(
     top: &mut [usize],
     words: &mut [usize],
     rows: &mut [usize],
-) -> Counts
-    requires columns { (Columns n input_starts.now input_rows.now) × (n ≤ 32768) }
-    requires enough { Enough n permutation.old firsts.old starts.old groups.old tasks.old top.old words.old }
-    requires top_value { (take n top.old ≡ list (parent (stored input_starts.now input_rows.now) n) n) × (take n groups.old ≡ list (count (stored input_starts.now input_rows.now) n) n) }
+) -> Result<Counts, Answer>
+    requires small { matrix.now.n ≤ 32768 }
+    requires enough { Enough matrix.now.n permutation.old firsts.old starts.old groups.old tasks.old top.old words.old }
+    requires top_value { (take matrix.now.n top.old ≡ list (parent (stored matrix.now.starts.now matrix.now.rows.now) matrix.now.n) matrix.now.n) × (take matrix.now.n groups.old ≡ list (count (stored matrix.now.starts.now matrix.now.rows.now) matrix.now.n) matrix.now.n) }
     requires rows_value { room.rows ≡ length rows.old }
-    ensures { Analysed (stored input_starts.now input_rows.now) n entries room result.answer result.supernodes result.rows result.updates permutation.old firsts.old starts.old groups.old tasks.old rows.old permutation.new firsts.new starts.new groups.new tasks.new words.new rows.new }
+    ensures passed { IfOk result (λ x. Analysed (stored matrix.now.starts.now matrix.now.rows.now) matrix.now.n entries room x.supernodes x.rows x.updates permutation.old firsts.old starts.old groups.old tasks.old rows.old permutation.new firsts.new starts.new groups.new tasks.new words.new rows.new) }
+    ensures refused { IfErr result (λ a. short (later_needs (stored matrix.now.starts.now matrix.now.rows.now) matrix.now.n entries room) ≡ some a) }
 {
     let sizes = numbered(
-        n,
-        input_starts,
-        input_rows,
+        matrix,
         permutation,
         firsts,
         starts,
@@ -205,16 +173,13 @@ pub fn build(
         top,
         words,
     );
-    let ns = sizes.supernodes;
     let need = sizes.rows;
     if room.rows < need {
-        return refused(Answer::ShortArea { area: 9, need });
+        return Err(Answer::ShortArea { area: 9, need });
     }
     let found = filled(
-        n,
-        ns,
-        input_starts,
-        input_rows,
+        matrix,
+        sizes.supernodes,
         permutation,
         firsts,
         starts,
@@ -224,15 +189,10 @@ pub fn build(
         words,
         rows,
     );
-    let many = found.updates;
-    let r = verdict(need, many, entries, found.differs, room);
-    let Answer::Accepted = r else {
-        return refused(r);
-    };
-    Counts {
-        answer: Answer::Accepted,
-        supernodes: ns,
+    verdict(need, found.updates, entries, found.differs, room)?;
+    Ok(Counts {
+        supernodes: sizes.supernodes,
         rows: need,
-        updates: many,
-    }
+        updates: found.updates,
+    })
 }

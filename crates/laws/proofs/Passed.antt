@@ -31,6 +31,15 @@ pub or_some : (f g : Option Answer) {a : Answer} → f ≡ some a → or_else f 
 unfolding or_else
 or_some f g e = rw e
 
+-- the same of results
+pub or_passed : (f g : Option Answer) {u : Unit {0}} → Ok u ≡ passed f → passed (or_else f g) ≡ passed g
+or_passed f g e = ap passed (or_none f g (passed_none f e))
+
+pub or_refused : (f g : Option Answer) {a : Answer} → Err a ≡ passed f → Err a ≡ passed (or_else f g)
+unfolding or_else
+or_refused none g e = let q : none ≡ some _ = passed_some none e in cc
+or_refused (some b) g e = e
+
 -- what the exit of a `?` returns
 pub exit_is : {T : Type 0} {r : Result T Answer} {a : Answer} → IsErrAnd r (λ y. y ≡ a) → r ≡ Err a
 exit_is {r = r} h = let p = err_from_is_err_and r h in p.1 ∙ ap (λ y. Err y) p.2

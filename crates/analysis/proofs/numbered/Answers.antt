@@ -6,16 +6,25 @@ use Rattle.analysis.proofs.numbered.Goals as goal
 pub numbering-ns-requires : goal.numbering-ns-requires
 numbering-ns-requires c =
     let pre' = c.requires in
-    let q = pre' in record { columns = q.columns.0; enough = record { one = q.enough.one; two = q.enough.two; three = q.enough.three; four = omega (arith, q.enough.four); five = omega (arith, q.enough.five); six = q.enough.six; seven = q.enough.seven }; top_value = q.top_value }
+    let q = pre' in record { enough = record { one = q.enough.one; two = q.enough.two; three = q.enough.three; four = omega (arith, q.enough.four); five = omega (arith, q.enough.five); six = q.enough.six; seven = q.enough.seven }; top_value = q.top_value }
+
+pub invariant_of-supernodes : goal.invariant_of-supernodes
+invariant_of-supernodes c =
+    let a = c.args in
+    record { known = known a.matrix.now.n a.matrix.now.starts.now a.matrix.now.rows.now a.matrix.now.valid c.requires.small c.numbering-ns.ensures }
 
 pub node_starts-rows-requires : goal.node_starts-rows-requires
 node_starts-rows-requires c =
-    let pre' = c.requires in
-    let args' = c.args in
-    let numbering' = c.numbering-ns in
-    let q = pre' in let a = args' in let w = numbering'.ensures in
-    let f = q.columns in
-    let ns = few_of a.n a.input_starts.now a.input_rows.now f.0 f.1 w.number in record { known = known a.n a.input_starts.now a.input_rows.now f.0 f.1 w; holds = counts_hold a.n a.input_starts.now a.input_rows.now f.0 f.1 w; holds_2 = parents_hold a.n a.input_starts.now a.input_rows.now f.0 f.1 w; holds_3 = owners_hold a.n a.input_starts.now a.input_rows.now f.0 f.1 w (omega (arith, q.enough.seven)); ns_in_bounds = (omega (arith, ns, q.enough.three), omega (arith, ns, q.enough.five)) }
+    let q = c.requires in
+    let a = c.args in
+    let w = c.numbering-ns.ensures in
+    let ns = few_of a.matrix.now.n a.matrix.now.starts.now a.matrix.now.rows.now a.matrix.now.valid q.small w.number in
+    record {
+      counted = counts_hold a.matrix.now.n a.matrix.now.starts.now a.matrix.now.rows.now a.matrix.now.valid q.small w;
+      parented = parents_hold a.matrix.now.n a.matrix.now.starts.now a.matrix.now.rows.now a.matrix.now.valid q.small w;
+      owned = owners_hold a.matrix.now.n a.matrix.now.starts.now a.matrix.now.rows.now a.matrix.now.valid q.small w (omega (arith, q.enough.seven));
+      room = (omega (arith, ns, q.enough.three), omega (arith, ns, q.enough.five));
+    }
 
 pub returns : goal.returns
 returns c =
@@ -23,4 +32,4 @@ returns c =
     let args' = c.args in
     let node-starts' = c.node_starts-rows in
     let numbering' = c.numbering-ns in
-    let q = pre' in let a = args' in let e = node-starts'.ensures in numbered a.n a.input_starts.now a.input_rows.now q.columns.0 q.columns.1 numbering'.ensures e.value e.starts_after e.tasks_after
+    let q = pre' in let a = args' in let e = node-starts'.ensures in numbered a.matrix.now.n a.matrix.now.starts.now a.matrix.now.rows.now a.matrix.now.valid q.small numbering'.ensures e.value e.starts_after e.tasks_after
