@@ -1,4 +1,3 @@
-use Prim.Native.Nat.{◌-◌}
 use Rattle.postorder.proofs.Forest.{put_more}
 use lib.ListN.{length-set}
 use native.Mathlib.Omega.{arith}
