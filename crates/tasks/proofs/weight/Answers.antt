@@ -7,27 +7,14 @@ use Rattle.tasks.proofs.weight.Goals as goal
 pub loop-c-init : goal.loop-c-init
 loop-c-init c = sum_start _ _ _
 
-pub overflow_mul-r : goal.overflow_mul-r
-overflow_mul-r c =
-    let args' = c.args in
-    let loop' = c.loop-c in
-    omega (arith, square (args'.m - loop'.c) (omega arith))
+pub overflow_mul-total : goal.overflow_mul-total
+overflow_mul-total c = omega (arith, square (c.args.m - c.loop-c.c) (omega arith))
 
-pub overflow_add-r : goal.overflow_add-r
-overflow_add-r c =
-    let loop' = c.loop-c in
-    let args' = c.args in
-    omega (arith, loop'.invariant.most, square (args'.m - loop'.c) (omega arith))
+pub overflow_add-total : goal.overflow_add-total
+overflow_add-total c = omega (arith, c.loop-c.invariant.most, square (c.args.m - c.loop-c.c) (omega arith))
 
 pub loop-c-preserved : goal.loop-c-preserved
-loop-c-preserved c =
-    let loop' = c.loop-c in
-    let loop-test' = c.loop-c-test in
-    let args' = c.args in
-    sum_more loop'.invariant loop-test'.true (square (args'.m - loop'.c) (omega arith))
+loop-c-preserved c = sum_more c.loop-c.invariant c.loop-c-test.true (square (c.args.m - c.loop-c.c) (omega arith))
 
 pub returns : goal.returns
-returns c =
-    let loop' = c.loop-c in
-    let loop-test' = c.loop-c-test in
-    sum_over loop'.invariant loop-test'.false
+returns c = sum_over c.loop-c.invariant c.loop-c-test.false

@@ -2,159 +2,68 @@ use Rattle.tasks.proofs.Weighing.{weights_over, weight_is, sized_at}
 use Rattle.areas.proofs.Front.{front_start, front_more}
 use lib.ListN.{length-set}
 use mathlib.Core.Path.{◌∙◌}
-use Prim.Native.Nat.{◌-◌}
 use native.Mathlib.Omega.{arith}
 use Rattle.tasks.proofs.weights.Goals as goal
 
 pub loop-k-init : goal.loop-k-init
-loop-k-init c =
-    let pre' = c.requires in
-    front_start _ _ _ (omega (arith, pre'.ns_in_bounds))
+loop-k-init c = front_start _ _ _ (omega (arith, c.requires.room))
 
 pub overflow_add-m : goal.overflow_add-m
-overflow_add-m c =
-    let good' = c.well_formed in
-    let pre' = c.requires in
-    let loop-test' = c.loop-k-test in
-    omega (arith, good', sized_at _ _ _ pre'.sized _ loop-test'.true)
+overflow_add-m c = omega (arith, c.well_formed, sized_at _ _ _ c.args.supernodes.now.sized _ c.loop-k-test.true)
 
-pub offset_bounds-starts-k : goal.offset_bounds-starts-k
-offset_bounds-starts-k c =
-    let good' = c.well_formed in
-    let pre' = c.requires in
-    let loop-test' = c.loop-k-test in
-    omega (arith, good', sized_at _ _ _ pre'.sized _ loop-test'.true)
+pub offset_bounds-supernodes-k : goal.offset_bounds-supernodes-k
+offset_bounds-supernodes-k c = omega (arith, c.well_formed, sized_at _ _ _ c.args.supernodes.now.sized _ c.loop-k-test.true)
 
-pub bounds-starts-k : goal.bounds-starts-k
-bounds-starts-k c =
-    let good' = c.well_formed in
-    let pre' = c.requires in
-    let loop-test' = c.loop-k-test in
-    omega (arith, good', sized_at _ _ _ pre'.sized _ loop-test'.true)
+pub bounds-supernodes-k : goal.bounds-supernodes-k
+bounds-supernodes-k c = omega (arith, c.well_formed, sized_at _ _ _ c.args.supernodes.now.sized _ c.loop-k-test.true)
 
-pub offset_bounds-starts-k-in-loop-k : goal.offset_bounds-starts-k-in-loop-k
-offset_bounds-starts-k-in-loop-k c =
-    let good' = c.well_formed in
-    let pre' = c.requires in
-    let loop-test' = c.loop-k-test in
-    omega (arith, good', sized_at _ _ _ pre'.sized _ loop-test'.true)
+pub offset_bounds-supernodes-k-in-loop-k : goal.offset_bounds-supernodes-k-in-loop-k
+offset_bounds-supernodes-k-in-loop-k c = omega (arith, c.well_formed, sized_at _ _ _ c.args.supernodes.now.sized _ c.loop-k-test.true)
 
-pub bounds-starts-k-in-loop-k : goal.bounds-starts-k-in-loop-k
-bounds-starts-k-in-loop-k c =
-    let good' = c.well_formed in
-    let pre' = c.requires in
-    let loop-test' = c.loop-k-test in
-    omega (arith, good', sized_at _ _ _ pre'.sized _ loop-test'.true)
+pub bounds-supernodes-k-in-loop-k : goal.bounds-supernodes-k-in-loop-k
+bounds-supernodes-k-in-loop-k c = omega (arith, c.well_formed, sized_at _ _ _ c.args.supernodes.now.sized _ c.loop-k-test.true)
 
 pub overflow_sub-m : goal.overflow_sub-m
-overflow_sub-m c =
-    let good' = c.well_formed in
-    let pre' = c.requires in
-    let loop-test' = c.loop-k-test in
-    omega (arith, good', sized_at _ _ _ pre'.sized _ loop-test'.true)
+overflow_sub-m c = omega (arith, c.well_formed, sized_at _ _ _ c.args.supernodes.now.sized _ c.loop-k-test.true)
 
 pub overflow_add-w : goal.overflow_add-w
-overflow_add-w c =
-    let good' = c.well_formed in
-    let pre' = c.requires in
-    let loop-test' = c.loop-k-test in
-    omega (arith, good', sized_at _ _ _ pre'.sized _ loop-test'.true)
+overflow_add-w c = omega (arith, c.well_formed, sized_at _ _ _ c.args.supernodes.now.sized _ c.loop-k-test.true)
 
-pub offset_bounds-firsts-k : goal.offset_bounds-firsts-k
-offset_bounds-firsts-k c =
-    let good' = c.well_formed in
-    let pre' = c.requires in
-    let loop-test' = c.loop-k-test in
-    omega (arith, good', sized_at _ _ _ pre'.sized _ loop-test'.true)
+pub offset_bounds-supernodes-k-in-loop-k-2 : goal.offset_bounds-supernodes-k-in-loop-k-2
+offset_bounds-supernodes-k-in-loop-k-2 c = omega (arith, c.well_formed, sized_at _ _ _ c.args.supernodes.now.sized _ c.loop-k-test.true)
 
-pub bounds-firsts-k : goal.bounds-firsts-k
-bounds-firsts-k c =
-    let good' = c.well_formed in
-    let pre' = c.requires in
-    let loop-test' = c.loop-k-test in
-    omega (arith, good', sized_at _ _ _ pre'.sized _ loop-test'.true)
+pub bounds-supernodes-k-in-loop-k-2 : goal.bounds-supernodes-k-in-loop-k-2
+bounds-supernodes-k-in-loop-k-2 c = omega (arith, c.well_formed, sized_at _ _ _ c.args.supernodes.now.sized _ c.loop-k-test.true)
 
-pub offset_bounds-firsts-k-in-loop-k : goal.offset_bounds-firsts-k-in-loop-k
-offset_bounds-firsts-k-in-loop-k c =
-    let good' = c.well_formed in
-    let pre' = c.requires in
-    let loop-test' = c.loop-k-test in
-    omega (arith, good', sized_at _ _ _ pre'.sized _ loop-test'.true)
+pub offset_bounds-supernodes-k-in-loop-k-3 : goal.offset_bounds-supernodes-k-in-loop-k-3
+offset_bounds-supernodes-k-in-loop-k-3 c = omega (arith, c.well_formed, sized_at _ _ _ c.args.supernodes.now.sized _ c.loop-k-test.true)
 
-pub bounds-firsts-k-in-loop-k : goal.bounds-firsts-k-in-loop-k
-bounds-firsts-k-in-loop-k c =
-    let good' = c.well_formed in
-    let pre' = c.requires in
-    let loop-test' = c.loop-k-test in
-    omega (arith, good', sized_at _ _ _ pre'.sized _ loop-test'.true)
+pub bounds-supernodes-k-in-loop-k-3 : goal.bounds-supernodes-k-in-loop-k-3
+bounds-supernodes-k-in-loop-k-3 c = omega (arith, c.well_formed, sized_at _ _ _ c.args.supernodes.now.sized _ c.loop-k-test.true)
 
 pub overflow_sub-w : goal.overflow_sub-w
-overflow_sub-w c =
-    let good' = c.well_formed in
-    let pre' = c.requires in
-    let loop-test' = c.loop-k-test in
-    omega (arith, good', sized_at _ _ _ pre'.sized _ loop-test'.true)
+overflow_sub-w c = omega (arith, c.well_formed, sized_at _ _ _ c.args.supernodes.now.sized _ c.loop-k-test.true)
 
 pub weight-requires : goal.weight-requires
-weight-requires c =
-    let good' = c.well_formed in
-    let pre' = c.requires in
-    let loop-test' = c.loop-k-test in
-    omega (arith, good', sized_at _ _ _ pre'.sized _ loop-test'.true)
+weight-requires c = omega (arith, c.well_formed, sized_at _ _ _ c.args.supernodes.now.sized _ c.loop-k-test.true)
 
 pub offset_bounds-to-k : goal.offset_bounds-to-k
-offset_bounds-to-k c =
-    let good' = c.well_formed in
-    let pre' = c.requires in
-    let loop-test' = c.loop-k-test in
-    let loop' = c.loop-k in
-    omega (arith, good', pre'.ns_in_bounds, loop-test'.true, loop'.invariant.len)
+offset_bounds-to-k c = omega (arith, c.well_formed, c.requires.room, c.loop-k-test.true, c.loop-k.invariant.len)
 
 pub bounds-to-k : goal.bounds-to-k
-bounds-to-k c =
-    let good' = c.well_formed in
-    let pre' = c.requires in
-    let loop-test' = c.loop-k-test in
-    let loop' = c.loop-k in
-    omega (arith, good', pre'.ns_in_bounds, loop-test'.true, loop'.invariant.len)
-
-pub overflow_add-k : goal.overflow_add-k
-overflow_add-k c =
-    let good' = c.well_formed in
-    let pre' = c.requires in
-    let loop-test' = c.loop-k-test in
-    let loop' = c.loop-k in
-    omega (arith, good', pre'.ns_in_bounds, loop-test'.true, loop'.invariant.len)
+bounds-to-k c = omega (arith, c.well_formed, c.requires.room, c.loop-k-test.true, c.loop-k.invariant.len)
 
 pub loop-k-preserved : goal.loop-k-preserved
-loop-k-preserved c =
-    let loop' = c.loop-k in
-    let loop-test' = c.loop-k-test in
-    let weight' = c.weight in
-    let args' = c.args in
-    front_more loop'.invariant loop-test'.true (weight'.ensures ∙ weight_is args'.firsts.now args'.starts.now loop'.k)
+loop-k-preserved c = front_more c.loop-k.invariant c.loop-k-test.true (c.weight.ensures ∙ weight_is c.args.supernodes.now.firsts.now c.args.supernodes.now.starts.now c.loop-k.k)
 
-pub offset_bounds-to-ns : goal.offset_bounds-to-ns
-offset_bounds-to-ns c =
-    let good' = c.well_formed in
-    let pre' = c.requires in
-    omega (arith, good', pre'.ns_in_bounds)
+pub offset_bounds-to-supernodes : goal.offset_bounds-to-supernodes
+offset_bounds-to-supernodes c = omega (arith, c.well_formed, c.requires.room)
 
-pub bounds-to-ns : goal.bounds-to-ns
-bounds-to-ns c =
-    let pre' = c.requires in
-    let loop' = c.loop-k in
-    omega (arith, pre'.ns_in_bounds, loop'.invariant.len)
+pub bounds-to-supernodes : goal.bounds-to-supernodes
+bounds-to-supernodes c = omega (arith, c.requires.room, c.loop-k.invariant.len)
 
 pub shape_of-to : goal.shape_of-to
-shape_of-to c =
-    let loop' = c.loop-k in
-    simp length-set (omega (arith, loop'.invariant.len))
+shape_of-to c = simp length-set (omega (arith, c.loop-k.invariant.len))
 
 pub returns : goal.returns
-returns c =
-    let args' = c.args in
-    let loop' = c.loop-k in
-    let loop-test' = c.loop-k-test in
-    let pre' = c.requires in
-    weights_over args'.firsts.now args'.starts.now loop'.invariant loop-test'.false pre'.ns_in_bounds
+returns c = weights_over c.args.supernodes.now.firsts.now c.args.supernodes.now.starts.now c.loop-k.invariant c.loop-k-test.false c.requires.room
