@@ -1,14 +1,7 @@
-use Rattle.tasks.proofs.Climbing.{climbing_begin, climbing_more, climbing_over, fits_in_lem}
+use Rattle.tasks.proofs.Climbing.{climbing_more, climbing_over, fits_in_lem}
 use Prim.Native.Nat.{◌<◌}
 use native.Mathlib.Omega.{arith}
 use Rattle.tasks.proofs.climb.Goals as goal
-
-pub loop-end-init : goal.loop-end-init
-loop-end-init c = (tt, climbing_begin _ _ _ _ _ _ c.requires.s_lt_ns)
-
-pub loop-end-smaller : goal.loop-end-smaller
-loop-end-smaller c = let a = c.args.tables.now in
-    let h = fits_in_lem a.number a.begins.now a.loads.now a.most c.args.s c.loop-end.r c.loop-end-test.true c.fits.ensures in omega (arith, h, a.above.rise _ h)
 
 pub loop-end-preserved : goal.loop-end-preserved
 loop-end-preserved c = let a = c.args.tables.now in
