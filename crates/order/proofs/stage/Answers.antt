@@ -15,13 +15,7 @@ at-end : (t k m : ℕ) → t ≡ k → m ≤ t → Full ≡ cond (ltb k m) Parti
 at-end t k m e h = rw (le-ltb k m (omega arith))
 
 pub returns-then-stop_at-ns : goal.returns-then-stop_at-ns
-returns-then-stop_at-ns c =
-    let stop-at' = c.stop_at in
-    let if1' = c.if-stop_at-ns in
-    λ S q. before-end _ _ _ (stop-at'.ensures S q) if1'.true
+returns-then-stop_at-ns c = λ S q. before-end _ _ _ (c.stop_at.ensures S q) c.if-stop_at-ns.true
 
-pub returns : goal.returns
-returns c =
-    let stop-at' = c.stop_at in
-    let if1' = c.if-stop_at-ns in
-    λ S q. at-end _ _ _ (stop-at'.ensures S q) if1'.false
+pub returns-else-stop_at-ns : goal.returns-else-stop_at-ns
+returns-else-stop_at-ns c = λ S q. at-end _ _ _ (c.stop_at.ensures S q) c.if-stop_at-ns.false
