@@ -1,17 +1,11 @@
 -- `order::list_fault` meets its contract. Assumes nothing.
 use Rattle.laws.proofs.First.{at_first, past_first}
 use Rattle.order.proofs.Fault.{wrong_length, fault_some, fault_none, answer_some, answer_none, above_part, of_part}
-use lib.Seq.{length-take-le}
-use native.Mathlib.Omega.{arith}
-use native.Mathlib.Numerals.{add-one}
-use mathlib.Core.Path.{refl, ◌∙◌}
+use mathlib.Core.Path.{refl}
 use Rattle.order.proofs.list_fault.Goals as goal
 
 pub returns-then-list-ns : goal.returns-then-list-ns
 returns-then-list-ns c = λ S of t h. answer_some (wrong_length S c.args.parents.now _ c.requires.above of _ _ c.if-list-ns.true)
-
-pub first_bad-requires : goal.first_bad-requires
-first_bad-requires c = record { parents_len = (length-take-le _ _ c.requires.ns_in_bounds.0, c.if-list-ns.false, length-take-le _ _ (omega arith) ∙ add-one _); above = above_part _ _ c.requires.above }
 
 pub returns-in-Some : goal.returns-in-Some
 returns-in-Some c = λ S of t h. let k = at_first _ _ c.in-Some.ensures in answer_some (fault_some S _ _ (above_part _ _ c.requires.above) (of_part c.args.parents.now _ of) _ _ c.if-list-ns.false h k.1 k.0)

@@ -1,20 +1,12 @@
 use Prim.Native.Nat.{◌-◌, ◌≤◌}
 use Rattle.postorder.proofs.Forest.{place_begin, place_end, size_one, place_more, place_over}
-use lib.ListN.{get_or, length-set}
+use lib.ListN.{get_or}
 use native.Mathlib.Nat.{le_refl}
 use native.Mathlib.Omega.{arith}
 use Rattle.postorder.proofs.places.Goals as goal
 
 pub loop-j-init : goal.loop-j-init
 loop-j-init c = let q = c.requires in (q.tree, le_refl _, place_begin _ _ q.tree (c.fill.ensures.after (λ y e. e)) (c.fill-2.ensures.after (λ y e. e)) q.size_len.1 q.size_len.2)
-
-pub offset_bounds-ends-p : goal.offset_bounds-ends-p
-offset_bounds-ends-p c =
-    let p-to : get_or c.args.parents.now (c.loop-j.j - 1) 0 ≤ c.args.n = c.requires.tree.to _ (omega arith) in omega (arith, p-to)
-
-pub bounds-ends-p : goal.bounds-ends-p
-bounds-ends-p c =
-    let p-to : get_or c.args.parents.now (c.loop-j.j - 1) 0 ≤ c.args.n = c.requires.tree.to _ (omega arith) in omega (arith, p-to)
 
 pub overflow_sub-ends : goal.overflow_sub-ends
 overflow_sub-ends c =
@@ -24,14 +16,6 @@ overflow_sub-ends c =
     let q = c.requires.size_value in
     omega (arith, size_one _ _ x.0 _ q _ c.loop-j-test.true x.1 _ _ x.2, place_end _ _ x.0 _ q _ c.loop-j-test.true x.1 _ _ x.2) in omega (arith, room)
 
-pub offset_bounds-ends-p-in-loop-j : goal.offset_bounds-ends-p-in-loop-j
-offset_bounds-ends-p-in-loop-j c =
-    let p-to : get_or c.args.parents.now (c.loop-j.j - 1) 0 ≤ c.args.n = c.requires.tree.to _ (omega arith) in omega (arith, p-to)
-
-pub bounds-ends-p-in-loop-j : goal.bounds-ends-p-in-loop-j
-bounds-ends-p-in-loop-j c =
-    let p-to : get_or c.args.parents.now (c.loop-j.j - 1) 0 ≤ c.args.n = c.requires.tree.to _ (omega arith) in omega (arith, p-to)
-
 pub overflow_sub-ends-in-loop-j : goal.overflow_sub-ends-in-loop-j
 overflow_sub-ends-in-loop-j c =
     let room : let l = c.args.parents.now in
@@ -39,9 +23,6 @@ overflow_sub-ends-in-loop-j c =
     (1 ≤ s) × (s ≤ get_or c.loop-j.ends (get_or l (c.loop-j.j - 1) 0) 0) = let x = c.loop-j.invariant in
     let q = c.requires.size_value in
     omega (arith, size_one _ _ x.0 _ q _ c.loop-j-test.true x.1 _ _ x.2, place_end _ _ x.0 _ q _ c.loop-j-test.true x.1 _ _ x.2) in omega (arith, room)
-
-pub bounds-ends-j : goal.bounds-ends-j
-bounds-ends-j c = simp length-set (omega arith)
 
 pub overflow_sub-place : goal.overflow_sub-place
 overflow_sub-place c =
