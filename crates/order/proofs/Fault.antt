@@ -15,12 +15,13 @@ use Rattle.statement.specs.Lists.{has, tally, bit, least, rising}
 use Rattle.statement.specs.Shape.{Shape, supernodes, parent_of}
 use Rattle.statement.specs.Run.{ready, first_bad, plain, order_fault}
 use Rattle.statement.specs.Demands.{Names}
-use Rattle.laws.specs.Answered.{answered}
+use Rattle.laws.specs.Answered.{passed}
+use Rattle.std.specs.Prelude.{Result, Ok, Err}
 use Rattle.statement.specs.Calls.{order_of, wrong_position}
 use Rattle.statement.specs.declared.Order.{Order}
 use Rattle.statement.specs.declared.Order.TheVariants.{Plain, Listed}
 use Rattle.statement.specs.declared.Answer.{Answer}
-use Rattle.statement.specs.declared.Answer.TheVariants.{Accepted, WrongOrder}
+use Rattle.statement.specs.declared.Answer.TheVariants.{WrongOrder}
 use Rattle.laws.proofs.Bools.{eqb_yes, eqb_no, ltb_yes, ltb_no}
 use Rattle.laws.proofs.Names.{length_rising, names_good, in_order}
 use Rattle.order.specs.Waiting.{Above, Of, names, waited, waits, wrong_at}
@@ -119,12 +120,12 @@ module _ (S : Shape) (p : List ℕ) (ns : ℕ) (above : Above p ns) (of : Of S p
       let up : (K : ℕ) → K < supernodes S → K < parent_of S K = λ K k. omega (arith, above.up K (omega (arith, of.many)), of.parents K (omega (arith, of.many))) in
       in_order S up (plain S) t (length_rising 0 (supernodes S)) (omega (arith, of.many)) (names_good S up (plain S) plain_names)
 
-pub answer_some : {o : Option ℕ} {q : ℕ} → o ≡ some q → WrongOrder q ≡ answered (wrong_position o)
-unfolding answered wrong_position
+pub answer_some : {o : Option ℕ} {q : ℕ} → o ≡ some q → Err (WrongOrder q) ≡ passed (wrong_position o)
+unfolding passed wrong_position
 answer_some e = rw e
 
-pub answer_none : {o : Option ℕ} → o ≡ none → Accepted ≡ answered (wrong_position o)
-unfolding answered wrong_position
+pub answer_none : {o : Option ℕ} → o ≡ none → Ok tt ≡ passed (wrong_position o)
+unfolding passed wrong_position
 answer_none e = rw e
 
 -- from the start of a longer list of parents
@@ -135,10 +136,10 @@ module _ (p : List ℕ) (ns : ℕ) where
   pub of_part : {S : Shape} → Of S p ns → Of S (take ns p) ns
   of_part w = record { many = w.many; parents = λ K k. get_or-take ns p K 0 k ∙ w.parents K k }
 
-pub as_plain : (S : Shape) (l : List ℕ) {o : Order} (t : ℕ) → o ≡ Plain → order_fault S (plain S) t ≡ none → Accepted ≡ answered (wrong_position (order_fault S (order_of S o l) t))
+pub as_plain : (S : Shape) (l : List ℕ) {o : Order} (t : ℕ) → o ≡ Plain → order_fault S (plain S) t ≡ none → Ok tt ≡ passed (wrong_position (order_fault S (order_of S o l) t))
 unfolding order_of
 as_plain S l t q h = answer_none (rw q h)
 
-pub as_listed : (S : Shape) (l : List ℕ) {o : Order} {r : Answer} (t : ℕ) → o ≡ Listed → r ≡ answered (wrong_position (order_fault S l t)) → r ≡ answered (wrong_position (order_fault S (order_of S o l) t))
+pub as_listed : (S : Shape) (l : List ℕ) {o : Order} {r : Result Unit Answer} (t : ℕ) → o ≡ Listed → r ≡ passed (wrong_position (order_fault S l t)) → r ≡ passed (wrong_position (order_fault S (order_of S o l) t))
 unfolding order_of
 as_listed S l t q h = rw q h

@@ -1,6 +1,5 @@
 -- The first supernodes of the order of the run. Assumes nothing.
-use mathlib.Core.Path.{◌≡◌, refl, sym, ap, ◌∙◌}
-use mathlib.Core.Bool.{true, false}
+use mathlib.Core.Path.{◌≡◌, sym, ap, ◌∙◌}
 use mathlib.Core.List.{List, ◌++◌}
 use Prim.Native.Nat.{ℕ, ◌≤◌}
 use native.Mathlib.Omega.{arith}
@@ -14,20 +13,10 @@ use Rattle.statement.specs.declared.Order.{Order}
 use Rattle.statement.specs.declared.Order.TheVariants.{Plain, Listed}
 use Rattle.laws.proofs.Names.{length_rising}
 use Rattle.areas.proofs.Lists.{is_list}
-use Rattle.laws.proofs.Order.{never}
-use Rattle.order.specs.Followed.{followed}
 use Rattle.order.proofs.Fault.{rising_at}
 
--- which order it is, by the way that the run goes
-pub is_plain : (o : Order) → followed o ≡ false → o ≡ Plain
-unfolding followed
-is_plain Plain e = refl
-is_plain Listed e = never refl e
-
-pub is_listed : (o : Order) → followed o ≡ true → o ≡ Listed
-unfolding followed
-is_listed Plain e = never e refl
-is_listed Listed e = refl
+pub followed : {l r : List ℕ} (d : List ℕ) → l ≡ r → l ++ d ≡ r ++ d
+followed d e = ap (λ x. x ++ d) e
 
 pub counted : (t : ℕ) → list (λ i. i) t ≡ rising 0 t
 counted t = sym (is_list (rising 0 t) (λ i. i) t (length_rising 0 t) (λ j h. rising_at 0 t j h ∙ zero-add j))

@@ -2,15 +2,14 @@
 #![tactic(auto)]
 
 ghost use Rattle.std.specs.Prelude.{◌≡◌, cond, ◌++◌, ◌≢◌, ℕ, suc, ◌-◌, ◌≤◌, ◌<◌, ltb, length, get_or, set, take, drop};
-ghost use Rattle.statement.specs.Lists.{least, rising};
+ghost use Rattle.statement.specs.Lists.{rising};
 ghost use Rattle.statement.specs.Shape.{Shape, supernodes};
 ghost use Rattle.statement.specs.Run.{order_fault};
-ghost use Rattle.laws.specs.Answered.{answered};
+ghost use Rattle.laws.specs.Answered.{passed};
+ghost use Rattle.laws.specs.First.{first_below};
 ghost use Rattle.statement.specs.Calls.{order_of, stop_of, wrong_position};
-ghost use Rattle.order.specs.Followed.{followed};
 ghost use Rattle.order.specs.Waiting.{Above, Of, wrong_at};
 
-use areas::copy_part;
 use statement::{Answer, Order, Stage, Stop};
 use supernodes::children;
 
@@ -29,18 +28,9 @@ pub fn stage(ns: usize, stop: Stop) -> Stage
     ensures { (S : Shape) → supernodes S ≡ ns → result ≡ cond (ltb (stop_of S stop) ns) Stage.Partial Stage.Full }
 {
     if stop_at(ns, stop) < ns {
-        return Stage::Partial;
-    }
-    Stage::Full
-}
-
-// Whether the run follows the list, which is then tested too.
-fn follows(order: Order) -> bool
-    ensures { result ≡ followed order }
-{
-    match order {
-        Order::Plain => false,
-        Order::Listed => true,
+        Stage::Partial
+    } else {
+        Stage::Full
     }
 }
 
@@ -51,50 +41,50 @@ fn name(ns: usize, parents: &[usize], j: usize, left: &mut [usize])
     ensures { left.new ≡ set (set left.old j (suc ns)) (get_or parents.now j 0) (get_or left.old (get_or parents.now j 0) 0 - 1) }
 {
     left[j] = ns + 1;
-    let q = parents[j];
-    left[q] = left[q] - 1;
+    left[parents[j]] -= 1;
 }
 
-// The first position whose entry may not stand there, or ns. In left, how many children each supernode waits for; slot ns has the roots.
-fn first_bad(ns: usize, parents: &[usize], list: &[usize], left: &mut [usize]) -> usize
+// The first position whose entry may not stand there. In left, how many children each supernode waits for; slot ns has the roots.
+fn first_bad(ns: usize, parents: &[usize], list: &[usize], left: &mut [usize]) -> Option<usize>
     requires parents_len { (length parents.now ≡ ns) × (length list.now ≡ ns) × (length left.old ≡ suc ns) }
     requires above { Above parents.now ns }
-    ensures { result ≡ least (wrong_at parents.now ns list.now) 0 ns }
+    ensures { result ≡ first_below (wrong_at parents.now ns list.now) ns }
 {
     children(ns, parents, left);
-    let mut p = 0;
-    while p < ns {
+    for p in 0..ns {
         let j = list[p];
         if j >= ns {
-            return p;
+            return Some(p);
         }
         if left[j] != 0 {
-            return p;
+            return Some(p);
         }
         name(ns, parents, j, left);
-        p += 1;
     }
-    p
+    None
 }
 
 // Number 8 of a list, under a stop count that may stand: its length, then its entries.
-fn list_fault(ns: usize, parents: &[usize], list: &[usize], left: &mut [usize]) -> Answer
+fn list_fault(
+    ns: usize,
+    parents: &[usize],
+    list: &[usize],
+    left: &mut [usize],
+) -> Result<(), Answer>
     requires ns_in_bounds { (ns ≤ length parents.now) × (ns < length left.old) }
     requires above { Above parents.now ns }
-    ensures { (S : Shape) → Of S parents.now ns → (t : ℕ) → t ≤ ns → result ≡ answered (wrong_position (order_fault S list.now t)) }
+    ensures { (S : Shape) → Of S parents.now ns → (t : ℕ) → t ≤ ns → result ≡ passed (wrong_position (order_fault S list.now t)) }
 {
     if list.len() != ns {
-        return Answer::WrongOrder { position: ns };
+        return Err(Answer::WrongOrder { position: ns });
     }
-    let m = ns + 1;
-    let p = first_bad(ns, &parents[..ns], list, &mut left[..m]);
-    if p < ns {
-        return Answer::WrongOrder { position: p };
+    match first_bad(ns, &parents[..ns], list, &mut left[..ns + 1]) {
+        Some(position) => Err(Answer::WrongOrder { position }),
+        None => Ok(()),
     }
-    Answer::Accepted
 }
 
-// Number 8 for ns supernodes with these parents, or accepted: the plain order is legal. What is in left, more than ns words, is lost.
+// Number 8 for ns supernodes with these parents: the plain order is legal. What is in left, more than ns words, is lost.
 pub fn order_fault(
     ns: usize,
     order: Order,
@@ -102,19 +92,19 @@ pub fn order_fault(
     stop: Stop,
     parents: &[usize],
     left: &mut [usize],
-) -> Answer
+) -> Result<(), Answer>
     requires ns_in_bounds { (ns ≤ length parents.now) × (ns < length left.old) }
     requires above { Above parents.now ns }
-    ensures { (S : Shape) → Of S parents.now ns → result ≡ answered (wrong_position (order_fault S (order_of S order list.now) (stop_of S stop))) }
+    ensures { (S : Shape) → Of S parents.now ns → result ≡ passed (wrong_position (order_fault S (order_of S order list.now) (stop_of S stop))) }
 {
     let t = stop_at(ns, stop);
     if t > ns {
-        return Answer::WrongOrder { position: ns };
+        return Err(Answer::WrongOrder { position: ns });
     }
-    if follows(order) {
-        return list_fault(ns, parents, list, left);
+    match order {
+        Order::Plain => Ok(()),
+        Order::Listed => list_fault(ns, parents, list, left),
     }
-    Answer::Accepted
 }
 
 // The first t words become 0, 1, ..
@@ -122,10 +112,8 @@ fn count_up(t: usize, to: &mut [usize])
     requires { t ≤ length to.old }
     ensures { to.new ≡ rising 0 t ++ drop t to.old }
 {
-    let mut i = 0;
-    while i < t {
+    for i in 0..t {
         to[i] = i;
-        i += 1;
     }
 }
 
@@ -134,9 +122,8 @@ pub fn names(order: Order, list: &[usize], t: usize, to: &mut [usize])
     requires { (t ≤ length to.old) × (order ≡ Order.Listed → t ≤ length list.now) }
     ensures { (S : Shape) → t ≤ supernodes S → to.new ≡ take t (order_of S order list.now) ++ drop t to.old }
 {
-    if follows(order) {
-        copy_part(t, list, to);
-    } else {
-        count_up(t, to);
+    match order {
+        Order::Plain => count_up(t, to),
+        Order::Listed => to[..t].copy_from_slice(&list[..t]),
     }
 }

@@ -1,18 +1,16 @@
 -- The cut into tasks and top, as it is written. Assumes nothing.
 use mathlib.Core.Path.{◌≡◌, refl, sym, ap, ap₂, ◌∙◌}
-use mathlib.Core.Logic.{⊎_elim, ◌≢◌}
-use mathlib.Core.Bool.{Bool, true, false, cond}
+use mathlib.Core.Logic.{◌≢◌}
 use mathlib.Core.List.{List, [], ◌∷◌, ◌++◌, append_assoc, append-nil}
-use Prim.Native.Nat.{ℕ, zero, suc, ◌+◌, ◌-◌, ◌*◌, ◌≤◌, ◌<◌}
+use Prim.Native.Nat.{ℕ, zero, suc, ◌+◌, ◌*◌, ◌≤◌, ◌<◌}
 use native.Mathlib.Omega.{arith}
 use native.Mathlib.Numerals.{add-one}
-use lib.Dec.{ltb, ltb→lt, lt→ltb}
 use lib.ListN.{length, get_or, set, drop, length-set, length-append}
 use lib.Seq.{set_at, drop-cons}
 use Rattle.statement.specs.Shape.{Shape, supernodes}
 use Rattle.statement.specs.Tasks.{climbed, Task, with_top, with_task, split}
 use Rattle.statement.specs.Areas.{flat}
-use Rattle.laws.proofs.Bools.{lt_or_le, ltb_yes, ltb_no, eqb_yes, eqb_no}
+use Rattle.laws.proofs.Bools.{ltb_yes, ltb_no, eqb_yes, eqb_no}
 use Rattle.tasks.specs.Given.{Tabled, Cut}
 
 module _ (S : Shape) (h : ℕ) where
@@ -144,21 +142,11 @@ module _ {ns : ℕ} {parents begins loads : List ℕ} {h : ℕ} {tasks₀ top₀
                 rest_o = rw (add-one s) (ro ∙ ap (λ z. v.dp ++ z.top) c ∙ unfold with_top in sym (append_assoc v.dp (s ∷ []) (split S h d (suc s)).top));
               }
 
-    one : (b : Bool) → b ≡ ltb s e → Cutting ns parents begins loads h tasks₀ top₀ (cond b (set (set tasks (2 * t) s) (2 * t + 1) e) tasks) (cond b top (set top o s)) (cond b (t + 1) t) (cond b o (o + 1)) (cond b e (s + 1))
-    one true q =
-        let k : s < e = ltb→lt s e (rw (← q) tt) in
-        record { to = below; few_t = omega (arith, w.few_t); few_o = omega (arith, w.few_o); same_t = simp length-set w.same_t; same_o = w.same_o; is = λ S g. task S g k }
-    one false q =
-        let k : e ≡ s = ⊎_elim (λ (a : s < e). absurd (rw (← q) at (lt→ltb s e a))) (λ (a : e ≤ s). omega arith) (lt_or_le s e) in
-        record { to = omega arith; few_t = omega (arith, w.few_t); few_o = omega (arith, w.few_o); same_t = w.same_t; same_o = simp length-set w.same_o; is = λ S g. alone S g k }
+    pub cut_task : s < e → Cutting ns parents begins loads h tasks₀ top₀ (set (set tasks (2 * t) s) (2 * t + 1) e) top (t + 1) o e
+    cut_task k = record { to = below; few_t = omega (arith, w.few_t); few_o = omega (arith, w.few_o); same_t = simp length-set w.same_t; same_o = w.same_o; is = λ S g. task S g k }
 
-    pub cutting_more : (b : Bool) → b ≡ ltb s e → {tasks' top' : List ℕ} {t' o' s' : ℕ} → tasks' ≡ cond b (set (set tasks (2 * t) s) (2 * t + 1) e) tasks → t' ≡ cond b (t + 1) t
-        → top' ≡ cond b top (set top o s) → o' ≡ cond b o (o + 1) → s' ≡ cond b e (s + 1) → Cutting ns parents begins loads h tasks₀ top₀ tasks' top' t' o' s'
-    cutting_more b q e1 e2 e3 e4 e5 = rw (e1, e2, e3, e4, e5) (one b q)
-
-    pub cutting_less : (b : Bool) → b ≡ ltb s e → {s' : ℕ} → s' ≡ cond b e (s + 1) → ns - s' < ns - s
-    cutting_less true q r = let k : s < e = ltb→lt s e (rw (← q) tt) in omega (arith, r)
-    cutting_less false q r = omega (arith, r)
+    pub cut_top : e ≡ s → Cutting ns parents begins loads h tasks₀ top₀ tasks (set top o s) t (o + 1) (s + 1)
+    cut_top k = record { to = omega arith; few_t = omega (arith, w.few_t); few_o = omega (arith, w.few_o); same_t = w.same_t; same_o = simp length-set w.same_o; is = λ S g. alone S g k }
 
   pub cutting_over : ns ≤ s → (S : Shape) → Tabled S ns parents begins loads → Cut (split S h ns 0) tasks₀ top₀ tasks top t o
   cutting_over l S g = record {

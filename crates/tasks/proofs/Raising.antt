@@ -12,7 +12,7 @@ use lib.ListN.{length, get_or, set, length-set}
 use lib.Seq.{get_or-set_same, get_or-set_other}
 use Rattle.statement.specs.Lists.{sum}
 use Rattle.statement.specs.Shape.{Shape, supernodes, parent_of}
-use Rattle.statement.specs.Tasks.{weight, load, subtree_start}
+use Rattle.statement.specs.Tasks.{weight, subtree_start}
 use Rattle.laws.specs.Pass.{Loads, raise, loads}
 use Rattle.laws.proofs.Bools.{split_at, ltb_yes}
 use Rattle.laws.proofs.Sum.{sum_ext}

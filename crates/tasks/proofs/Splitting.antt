@@ -70,16 +70,19 @@ module _ (ns : ℕ) (w ys zs : List ℕ) (long : 3 * ns + 3 ≤ length w) (ly : 
   mid = put_mid (ns + 1) (length w - (ns + 1)) w ys
 
   abbrev back : List ℕ
-  back = put_mid (2 * ns + 2) (length mid - (2 * ns + 2)) mid zs
+  back = take (2 * ns + 2) mid ++ zs
 
   back_is : back ≡ two
-  back_is = tail_back (2 * ns + 2) mid zs ∙ ap (λ l. take (2 * ns + 2) l ++ zs) (tail_back (ns + 1) w ys)
+  back_is = ap (λ l. take (2 * ns + 2) l ++ zs) (tail_back (ns + 1) w ys)
 
   pub spread_back : (S : Shape) → Weighed S ns w → Holds (subtree_start S) ns ys → Holds (parent_of S) ns zs → Spread S ns back
   spread_back S a b c = rw back_is (spread S a b c)
 
   pub above_back : Above ns zs → Above ns (drop (2 * ns + 2) back)
   above_back a = rw (back_is, third) a
+
+pub followed : {l r : List ℕ} (d : List ℕ) → l ≡ r → l ++ d ≡ r ++ d
+followed d e = ap (λ x. x ++ d) e
 
 -- ns of the parents, copied
 pub above_part : {ns : ℕ} {parents zs : List ℕ} (d : List ℕ) → Above ns parents → zs ≡ take ns parents ++ d → Above ns zs

@@ -1,5 +1,5 @@
 -- What the split into tasks asks of the lists, and what it leaves. Definitions only.
-use Rattle.std.specs.Prelude.{◌≡◌, Bool, ◌&&◌, List, ◌++◌, ℕ, suc, ◌+◌, ◌-◌, ◌*◌, ◌≤◌, ◌<◌, eqb, leb, ltb, length, get_or, drop}
+use Rattle.std.specs.Prelude.{◌≡◌, Bool, ◌&&◌, List, ◌++◌, ℕ, suc, ◌+◌, ◌-◌, ◌*◌, ◌≤◌, ◌<◌, eqb, leb, ltb, length, get_or, drop, Option, None, Some}
 use Rattle.statement.specs.Lists.{sum}
 use Rattle.statement.specs.Shape.{Shape, supernodes, width, height, parent_of}
 use Rattle.statement.specs.Tasks.{weight, load, subtree_start, Split}
@@ -54,6 +54,11 @@ pub record Loaded (ns : ℕ) (parents to₀ to : List ℕ) : Type 0 where
 -- `fitting` by the lists
 abbrev pub fits_in : ℕ → List ℕ → List ℕ → ℕ → ℕ → ℕ → Bool
 fits_in ns begins loads most s r = ltb r ns && (eqb (get_or begins r 0) s && leb (get_or loads r 0) most)
+
+-- where a climb from s ended: at s itself, if no subtree fits
+abbrev pub ended : ℕ → Option ℕ → ℕ
+ended s None = s
+ended s (Some e) = e
 
 -- the loads with their total
 pub record Weighed (S : Shape) (ns : ℕ) (loads : List ℕ) : Type 0 where

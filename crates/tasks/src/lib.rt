@@ -1,57 +1,71 @@
 // Tasks and top: subtrees of at most a share of the work, and the supernodes above them.
 #![tactic(auto)]
 
-ghost use Rattle.std.specs.Prelude.{◌≡◌, cond, ◌++◌, ◌∷◌, ℕ, suc, ◌+◌, ◌-◌, ◌*◌, ◌≤◌, ◌<◌, ◌/◌, ◌^◌, min, max, length, get_or, set, drop};
+ghost use Rattle.std.specs.Prelude.{◌≡◌, ◌++◌, ◌∷◌, ℕ, suc, ◌+◌, ◌-◌, ◌*◌, ◌≤◌, ◌<◌, ◌/◌, ◌^◌, max, length, get_or, drop, IfSome};
 ghost use Rattle.statement.specs.Lists.{sum, list};
 ghost use Rattle.statement.specs.Shape.{Shape, supernodes};
 ghost use Rattle.statement.specs.Tasks.{subtree_start, climbed, split, split_of};
 ghost use Rattle.areas.specs.Buckets.{Holds};
-ghost use Rattle.tasks.specs.Given.{Above, Sized, Parented, Given, Tabled, Loaded, Weighed, Spread, Cut, Parts, weight_in, fits_in};
+ghost use Rattle.tasks.specs.Given.{Above, Sized, Parented, Given, Tabled, Loaded, Weighed, Spread, Cut, Parts, weight_in, fits_in, ended};
 
-use areas::{clear_words, copy_part};
+// The supernodes whose work is split: their first columns, where their rows start, and their parents.
+#[derive(Clone, Copy)]
+struct Supernodes<'a> {
+    number: usize,
+    firsts: &'a [usize],
+    starts: &'a [usize],
+    parents: &'a [usize],
+    ghost sized: { Sized number firsts.now starts.now },
+    ghost above: { Above number parents.now },
+}
+
+// What the cut reads: the parents, the first supernode of each subtree, the load of each, and the most that a task may have.
+#[derive(Clone, Copy)]
+struct Tables<'a> {
+    number: usize,
+    parents: &'a [usize],
+    begins: &'a [usize],
+    loads: &'a [usize],
+    most: usize,
+    ghost above: { Above number parents.now },
+    ghost long: { (number ≤ length begins.now) × (number ≤ length loads.now) },
+}
 
 // The sum of the squares of m - c over w columns.
 fn weight(m: usize, w: usize) -> usize
     requires { (w ≤ m) × (m ≤ 32768) }
     ensures { result ≡ sum (λ c. (m - c) * (m - c)) w }
 {
-    let mut r = 0;
-    let mut c = 0;
-    while c < w {
+    let mut total = 0;
+    for c in 0..w {
         let d = m - c;
-        r = r + d * d;
-        c += 1;
+        total += d * d;
     }
-    r
+    total
 }
 
 // The weight of each supernode, and 0 for what is above the roots.
-fn weights(ns: usize, firsts: &[usize], starts: &[usize], to: &mut [usize])
-    requires sized { Sized ns firsts.now starts.now }
-    requires ns_in_bounds { ns < length to.old }
-    ensures { to.new ≡ list (weight_in firsts.now starts.now) ns ++ 0 ∷ drop (suc ns) to.old }
+fn weights(supernodes: &Supernodes<'_>, to: &mut [usize])
+    requires room { supernodes.now.number < length to.old }
+    ensures { to.new ≡ list (weight_in supernodes.now.firsts.now supernodes.now.starts.now) supernodes.now.number ++ 0 ∷ drop (suc supernodes.now.number) to.old }
 {
-    let mut k = 0;
-    while k < ns {
-        let m = starts[k + 1] - starts[k];
-        let w = firsts[k + 1] - firsts[k];
+    for k in 0..supernodes.number {
+        let m = supernodes.starts[k + 1] - supernodes.starts[k];
+        let w = supernodes.firsts[k + 1] - supernodes.firsts[k];
         to[k] = weight(m, w);
-        k += 1;
     }
-    to[ns] = 0;
+    to[supernodes.number] = 0;
 }
 
 // Each weight is added up the tree; slot ns, the parent of the roots, gets the total.
-fn raise_loads(ns: usize, parents: &[usize], to: &mut [usize])
-    requires above { Above ns parents.now }
-    requires ns_in_bounds { (ns < length to.old) × (sum (λ j. get_or to.old j 0) (suc ns) < 2 ^ 64) }
-    ensures { Loaded ns parents.now to.old to.new }
+fn raise_loads(supernodes: &Supernodes<'_>, to: &mut [usize])
+    requires room { supernodes.now.number < length to.old }
+    requires fits { sum (λ j. get_or to.old j 0) (suc supernodes.now.number) < 2 ^ 64 }
+    ensures { Loaded supernodes.now.number supernodes.now.parents.now to.old to.new }
 {
-    let mut k = 0;
-    while k < ns {
-        let p = parents[k];
-        to[p] = to[p] + to[k];
-        k += 1;
+    for k in 0..supernodes.number {
+        let p = supernodes.parents[k];
+        to[p] += to[k];
     }
 }
 
@@ -60,34 +74,20 @@ fn own_begins(ns: usize, to: &mut [usize])
     requires { ns < length to.old }
     ensures { to.new ≡ list (λ k. k) (suc ns) ++ drop (suc ns) to.old }
 {
-    let m = ns + 1;
-    let mut k = 0;
-    while k < m {
+    for k in 0..ns + 1 {
         to[k] = k;
-        k += 1;
     }
-}
-
-fn less(a: usize, b: usize) -> usize
-    ensures { result ≡ min a b }
-{
-    if a < b {
-        return a;
-    }
-    b
 }
 
 // The first supernode of each subtree, from each by itself.
-fn raise_begins(ns: usize, parents: &[usize], to: &mut [usize])
-    requires above { Above ns parents.now }
-    requires ns_in_bounds { (ns < length to.old) × Holds (λ k. k) ns to.old }
-    ensures { (S : Shape) → Parented S ns parents.now → Holds (subtree_start S) ns to.new }
+fn raise_begins(supernodes: &Supernodes<'_>, to: &mut [usize])
+    requires room { supernodes.now.number < length to.old }
+    requires own { Holds (λ k. k) supernodes.now.number to.old }
+    ensures { (S : Shape) → Parented S supernodes.now.number supernodes.now.parents.now → Holds (subtree_start S) supernodes.now.number to.new }
 {
-    let mut k = 0;
-    while k < ns {
-        let p = parents[k];
-        to[p] = less(to[p], to[k]);
-        k += 1;
+    for k in 0..supernodes.number {
+        let p = supernodes.parents[k];
+        to[p] = to[p].min(to[k]);
     }
 }
 
@@ -95,86 +95,29 @@ fn raise_begins(ns: usize, parents: &[usize], to: &mut [usize])
 fn share(total: usize) -> usize
     ensures { result ≡ max (total / 256) (2 ^ 21) }
 {
-    let t = total / 256;
-    if 2097152 < t {
-        return t;
-    }
-    2097152
+    (total / 256).max(1 << 21)
 }
 
 // The subtree of r starts at s and fits.
-fn fits(ns: usize, begins: &[usize], loads: &[usize], most: usize, s: usize, r: usize) -> bool
-    requires { (ns ≤ length begins.now) × (ns ≤ length loads.now) }
-    ensures { result ≡ fits_in ns begins.now loads.now most s r }
+fn fits(tables: &Tables<'_>, s: usize, r: usize) -> bool
+    ensures { result ≡ fits_in tables.now.number tables.now.begins.now tables.now.loads.now tables.now.most s r }
 {
-    if r >= ns {
-        return false;
-    }
-    if begins[r] != s {
-        return false;
-    }
-    loads[r] <= most
+    r < tables.number && tables.begins[r] == s && tables.loads[r] <= tables.most
 }
 
-// One past the highest root from s up whose subtree starts at s and fits; s if there is none.
-fn climb(
-    ns: usize,
-    parents: &[usize],
-    begins: &[usize],
-    loads: &[usize],
-    most: usize,
-    s: usize,
-) -> usize
-    requires s_lt_ns { (s < ns) × Above ns parents.now }
-    requires ns_in_bounds { (ns ≤ length begins.now) × (ns ≤ length loads.now) }
-    ensures lower_bound { (s ≤ result) × (result ≤ ns) }
-    ensures value { (S : Shape) → Tabled S ns parents.now begins.now loads.now → result ≡ climbed S most s ns s s }
+// One past the highest root from s up whose subtree starts at s and fits, if there is one.
+fn climb(tables: &Tables<'_>, s: usize) -> Option<usize>
+    requires s_lt_ns { s < tables.now.number }
+    ensures range { IfSome result (λ e. (s < e) × (e ≤ tables.now.number)) }
+    ensures value { (S : Shape) → Tabled S tables.now.number tables.now.parents.now tables.now.begins.now tables.now.loads.now → ended s result ≡ climbed S tables.now.most s tables.now.number s s }
 {
-    let mut e = s;
+    let mut end = None;
     let mut r = s;
-    while fits(ns, begins, loads, most, s, r) {
-        e = r + 1;
-        r = parents[r];
+    while fits(tables, s, r) {
+        end = Some(r + 1);
+        r = tables.parents[r];
     }
-    e
-}
-
-// The task from s to e after the first m, if asked for; how many there are then.
-fn push_task(yes: bool, to: &mut [usize], m: usize, s: usize, e: usize) -> usize
-    requires { 2 * m + 1 < length to.old }
-    ensures value { result ≡ cond yes (m + 1) m }
-    ensures to_after { to.new ≡ cond yes (set (set to.old (2 * m) s) (2 * m + 1) e) to.old }
-{
-    if yes {
-        let at = 2 * m;
-        to[at] = s;
-        to[at + 1] = e;
-        return m + 1;
-    }
-    m
-}
-
-// s after the first m of the top, unless asked not to; how many there are then.
-fn push_top(no: bool, to: &mut [usize], m: usize, s: usize) -> usize
-    requires { m < length to.old }
-    ensures value { result ≡ cond no m (m + 1) }
-    ensures to_after { to.new ≡ cond no to.old (set to.old m s) }
-{
-    if no {
-        return m;
-    }
-    to[m] = s;
-    m + 1
-}
-
-fn next(yes: bool, s: usize, e: usize) -> usize
-    requires { s < 2 ^ 63 }
-    ensures { result ≡ cond yes e (s + 1) }
-{
-    if yes {
-        return e;
-    }
-    s + 1
+    end
 }
 
 // How many tasks and how many top entries there are.
@@ -185,65 +128,59 @@ pub struct Cuts {
 }
 
 // The tasks and the top by the loads and the first supernodes of the subtrees.
-fn cut(
-    ns: usize,
-    parents: &[usize],
-    begins: &[usize],
-    loads: &[usize],
-    most: usize,
-    tasks: &mut [usize],
-    top: &mut [usize],
-) -> Cuts
-    requires above { Above ns parents.now }
-    requires ns_in_bounds { (ns ≤ length begins.now) × (ns ≤ length loads.now) }
-    requires ns_in_bounds_2 { (2 * ns ≤ length tasks.old) × (ns ≤ length top.old) }
-    ensures { (S : Shape) → Tabled S ns parents.now begins.now loads.now → Cut (split S most ns 0) tasks.old top.old tasks.new top.new result.tasks result.top }
+fn cut(tables: &Tables<'_>, tasks: &mut [usize], top: &mut [usize]) -> Cuts
+    requires room { (2 * tables.now.number ≤ length tasks.old) × (tables.now.number ≤ length top.old) }
+    ensures { (S : Shape) → Tabled S tables.now.number tables.now.parents.now tables.now.begins.now tables.now.loads.now → Cut (split S tables.now.most tables.now.number 0) tasks.old top.old tasks.new top.new result.tasks result.top }
 {
     let mut t = 0;
     let mut o = 0;
     let mut s = 0;
-    while s < ns {
-        let e = climb(ns, parents, begins, loads, most, s);
-        let yes = s < e;
-        t = push_task(yes, tasks, t, s, e);
-        o = push_top(yes, top, o, s);
-        s = next(yes, s, e);
+    while s < tables.number {
+        match climb(tables, s) {
+            Some(end) => {
+                tasks[2 * t] = s;
+                tasks[2 * t + 1] = end;
+                t += 1;
+                s = end;
+            }
+            None => {
+                top[o] = s;
+                o += 1;
+                s += 1;
+            }
+        }
     }
     Cuts { tasks: t, top: o }
 }
 
 // The loads, by first columns, row starts and parents; slot ns has the total.
-fn loads(ns: usize, firsts: &[usize], starts: &[usize], parents: &[usize], to: &mut [usize])
-    requires sized { Sized ns firsts.now starts.now × Above ns parents.now }
-    requires ns_in_bounds { ns < length to.old }
-    ensures { (S : Shape) → Given S ns firsts.now starts.now parents.now → Weighed S ns to.new }
+fn loads(supernodes: &Supernodes<'_>, to: &mut [usize])
+    requires room { supernodes.now.number < length to.old }
+    ensures { (S : Shape) → Given S supernodes.now.number supernodes.now.firsts.now supernodes.now.starts.now supernodes.now.parents.now → Weighed S supernodes.now.number to.new }
 {
-    weights(ns, firsts, starts, to);
-    raise_loads(ns, parents, to);
+    weights(supernodes, to);
+    raise_loads(supernodes, to);
 }
 
 // The first supernodes of the subtrees.
-fn begins(ns: usize, parents: &[usize], to: &mut [usize])
-    requires above { Above ns parents.now }
-    requires ns_in_bounds { ns < length to.old }
-    ensures { (S : Shape) → Parented S ns parents.now → Holds (subtree_start S) ns to.new }
+fn begins(supernodes: &Supernodes<'_>, to: &mut [usize])
+    requires room { supernodes.now.number < length to.old }
+    ensures { (S : Shape) → Parented S supernodes.now.number supernodes.now.parents.now → Holds (subtree_start S) supernodes.now.number to.new }
 {
-    own_begins(ns, to);
-    raise_begins(ns, parents, to);
+    own_begins(supernodes.number, to);
+    raise_begins(supernodes, to);
 }
 
 // What the split reads, in the words: the loads, from ns + 1 the first supernodes of the subtrees, from 2 ns + 2 the parents.
-fn table(ns: usize, firsts: &[usize], starts: &[usize], parents: &[usize], words: &mut [usize])
-    requires sized { Sized ns firsts.now starts.now × Above ns parents.now }
-    requires ns_bound { (ns ≤ 32768) × (3 * ns + 3 ≤ length words.old) }
-    ensures spread { (S : Shape) → Given S ns firsts.now starts.now parents.now → Spread S ns words.new }
-    ensures above { Above ns (drop (2 * ns + 2) words.new) }
+fn table(supernodes: &Supernodes<'_>, words: &mut [usize])
+    requires room { (supernodes.now.number ≤ 32768) × (3 * supernodes.now.number + 3 ≤ length words.old) }
+    ensures spread { (S : Shape) → Given S supernodes.now.number supernodes.now.firsts.now supernodes.now.starts.now supernodes.now.parents.now → Spread S supernodes.now.number words.new }
+    ensures above { Above supernodes.now.number (drop (2 * supernodes.now.number + 2) words.new) }
 {
-    loads(ns, firsts, starts, parents, words);
-    let b = ns + 1;
-    begins(ns, parents, &mut words[b..]);
-    let p = 2 * ns + 2;
-    copy_part(ns, parents, &mut words[p..]);
+    let ns = supernodes.number;
+    loads(supernodes, words);
+    begins(supernodes, &mut words[ns + 1..]);
+    words[2 * ns + 2..3 * ns + 2].copy_from_slice(&supernodes.parents[..ns]);
 }
 
 // The tasks and the top by those tables.
@@ -252,10 +189,14 @@ fn cut_by(ns: usize, words: &[usize], tasks: &mut [usize], top: &mut [usize]) ->
     requires ns_in_bounds { (2 * ns ≤ length tasks.old) × (ns ≤ length top.old) }
     ensures { (S : Shape) → supernodes S ≡ ns → Spread S ns words.now → Cut (split_of S) tasks.old top.old tasks.new top.new result.tasks result.top }
 {
-    let b = ns + 1;
-    let p = 2 * ns + 2;
-    let most = share(words[ns]);
-    cut(ns, &words[p..], &words[b..], &words[..b], most, tasks, top)
+    let tables = Tables {
+        number: ns,
+        parents: &words[2 * ns + 2..],
+        begins: &words[ns + 1..],
+        loads: &words[..ns + 1],
+        most: share(words[ns]),
+    };
+    cut(&tables, tasks, top)
 }
 
 // The tasks and the top of ns supernodes, whose parents stand in tasks from n on; the words are scratch.
@@ -273,8 +214,14 @@ pub fn split(
     requires ns_in_bounds { (2 * ns ≤ length tasks.old) × (ns ≤ length top.old) }
     ensures { (S : Shape) → Given S ns firsts.now starts.now (drop n tasks.old) → Parts (split_of S) tasks.old top.old tasks.new top.new result.tasks result.top }
 {
-    table(ns, firsts, starts, &tasks[n..], words);
-    clear_words(tasks);
-    clear_words(top);
+    let supernodes = Supernodes {
+        number: ns,
+        firsts,
+        starts,
+        parents: &tasks[n..],
+    };
+    table(&supernodes, words);
+    tasks.fill(0);
+    top.fill(0);
     cut_by(ns, words, tasks, top)
 }

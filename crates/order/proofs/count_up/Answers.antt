@@ -1,6 +1,5 @@
 use mathlib.Core.Path.{refl, ap, ◌∙◌}
 use mathlib.Core.List.{◌++◌}
-use Prim.Native.Nat.{◌-◌}
 use lib.ListN.{drop}
 use Rattle.areas.proofs.Front.{front_start, front_more, front_over}
 use Rattle.order.proofs.Firsts.{counted}

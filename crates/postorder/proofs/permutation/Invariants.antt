@@ -1,5 +1,5 @@
 -- `postorder::permutation` meets its contract. Assumes nothing.
-use Prim.Native.Nat.{ℕ, ◌-◌, ◌≤◌, ◌<◌}
+use Prim.Native.Nat.{ℕ, ◌≤◌, ◌<◌}
 use lib.ListN.{length, get_or}
 use mathlib.Core.Path.{◌≡◌}
 use Rattle.postorder.proofs.permutation.Given as goal

@@ -1,5 +1,5 @@
 -- `postorder::sizes` meets its contract. Assumes nothing.
-use Prim.Native.Nat.{suc, ◌-◌, ◌≤◌}
+use Prim.Native.Nat.{suc, ◌≤◌}
 use Rattle.postorder.specs.Order.{up}
 use lib.ListN.{length}
 use mathlib.Core.Path.{◌≡◌}

@@ -1,4 +1,4 @@
-use Prim.Native.Nat.{suc, ◌-◌, ◌≤◌}
+use Prim.Native.Nat.{suc, ◌≤◌}
 use Rattle.supernodes.proofs.Nodes.{kids_begin, kids_fits, kids_step}
 use Rattle.statement.specs.Lists.{list}
 use Rattle.supernodes.specs.Found.{kids_of}
@@ -8,26 +8,22 @@ use native.Mathlib.Omega.{arith}
 use Rattle.supernodes.proofs.children.Goals as goal
 
 pub loop-j-init : goal.loop-j-init
-loop-j-init c = let f = c.fill.ensures in let q = c.requires.parents_len.1 in (omega arith, ap length f ∙ length-replicate _ _ ∙ q, f ∙ kids_begin c.args.parents.now _ _ q)
+loop-j-init c = let f = c.fill.ensures.after (λ y e. e) in let q = c.requires.parents_len.1 in (omega arith, ap length f ∙ length-replicate _ _ ∙ q, f ∙ kids_begin c.args.parents.now _ _ q)
 
-pub offset_bounds-kids-p : goal.offset_bounds-kids-p
-offset_bounds-kids-p c =
+pub offset_bounds-kids-parents : goal.offset_bounds-kids-parents
+offset_bounds-kids-parents c =
     let p-to : get_or c.args.parents.now c.loop-j.j 0 ≤ c.args.n = c.requires.by_index _ c.loop-j-test.true in omega (arith, p-to)
 
-pub bounds-kids-p : goal.bounds-kids-p
-bounds-kids-p c =
+pub bounds-kids-parents : goal.bounds-kids-parents
+bounds-kids-parents c =
     let p-to : get_or c.args.parents.now c.loop-j.j 0 ≤ c.args.n = c.requires.by_index _ c.loop-j-test.true in omega (arith, p-to)
 
 pub overflow_add-kids : goal.overflow_add-kids
 overflow_add-kids c =
     let p-to : get_or c.args.parents.now c.loop-j.j 0 ≤ c.args.n = c.requires.by_index _ c.loop-j-test.true in omega (arith, kids_fits c.args.parents.now _ _ _ c.loop-j.invariant.2 (p-to))
 
-pub offset_bounds-kids-p-in-loop-j : goal.offset_bounds-kids-p-in-loop-j
-offset_bounds-kids-p-in-loop-j c =
-    let p-to : get_or c.args.parents.now c.loop-j.j 0 ≤ c.args.n = c.requires.by_index _ c.loop-j-test.true in omega (arith, p-to)
-
-pub bounds-kids-p-in-loop-j : goal.bounds-kids-p-in-loop-j
-bounds-kids-p-in-loop-j c =
+pub bounds-kids-parents-in-loop-j : goal.bounds-kids-parents-in-loop-j
+bounds-kids-parents-in-loop-j c =
     let p-to : get_or c.args.parents.now c.loop-j.j 0 ≤ c.args.n = c.requires.by_index _ c.loop-j-test.true in omega (arith, p-to)
 
 pub loop-j-preserved : goal.loop-j-preserved

@@ -8,6 +8,3 @@ use Rattle.supernodes.proofs.first_columns.Given as goal
 
 abbrev pub invariant-loop-j : goal.invariant-loop-j
 invariant-loop-j l = Listing (begins_in l.parents l.counts l.n) l.n l.initial.first l.first l.m l.j × Front (λ j. tally (begins_in l.parents l.counts l.n) (suc j) - 1) l.n l.initial.owner l.owner l.j
-
-abbrev pub decreases-loop-j : goal.decreases-loop-j
-decreases-loop-j l = l.n - l.j

@@ -4,7 +4,4 @@ use Prim.Native.Nat.{◌-◌, ◌*◌}
 use Rattle.tasks.proofs.weight.Given as goal
 
 abbrev pub invariant-loop-c : goal.invariant-loop-c
-invariant-loop-c l = Summed (λ c. (l.m - c) * (l.m - c)) l.w 1073741824 l.r l.c
-
-abbrev pub decreases-loop-c : goal.decreases-loop-c
-decreases-loop-c l = l.w - l.c
+invariant-loop-c l = Summed (λ c. (l.m - c) * (l.m - c)) l.w 1073741824 l.total l.c

@@ -1,9 +1,0 @@
--- `postorder::moved` meets its contract. Assumes nothing.
-use borrow.Author.Tests.{eq-eqb, ne_eqb}
-use Rattle.postorder.proofs.moved.Goals as goal
-
-pub returns-then-p-n : goal.returns-then-p-n
-returns-then-p-n c = simp (eq-eqb _ _ c.if-p-n.true)
-
-pub returns : goal.returns
-returns c = simp (ne_eqb _ _ c.if-p-n.false)
