@@ -355,6 +355,3 @@ module _ (n : ℕ) (starts rows : List ℕ) where
       in_rows = buckets_start 0 (lower_rows n starts rows) n next l g.fits f g.at;
       in_values = buckets_start nan (lower_values n starts rows values) n next v g.fits (omega (arith, starts_same n starts rows values n)) (λ j k. g.at j k ∙ sym (starts_same n starts rows values j));
     }
-
-    pub put_over : {r : ℕ} {next l : List ℕ} {v : List Float} → Put n starts rows values r next l v → r ≤ n → n ≤ r → Put n starts rows values n next l v
-    put_over {r} {next} {l} {v} w a b = rw (let z : r ≡ n = omega arith in z) at w
