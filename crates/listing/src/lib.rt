@@ -6,9 +6,10 @@ ghost use Rattle.updates.specs.Layout.{updates_at, offsets_at};
 ghost use Rattle.updates.specs.Laying.{said, written, ToLay, LaidOut};
 ghost use Rattle.listing.specs.Writing.{ToWrite, last_place, Wrote};
 
+use areas::clear;
 use statement::Update;
-use update::{clear_between, put_update};
 use updates::scan_one;
+use views::{Matrix, Structure};
 
 // Where spot i's update goes.
 fn place_at(i: usize, n: usize, words: &[usize]) -> usize
@@ -36,45 +37,25 @@ fn write_one(source: usize, c: usize, n: usize, words: &[usize], us: &mut [Updat
     requires { ToWrite n c words.now (length us.old) }
     ensures { us.new ≡ written source c (drop (updates_at n) words.now) us.old }
 {
-    let mut i: usize = 0;
-    while i < c {
-        let p = place_at(i, n, words);
-        let u = update_of(source, i, n, words);
-        put_update(us, p, u);
-        i += 1;
+    for i in 0..c {
+        us[place_at(i, n, words)] = update_of(source, i, n, words);
     }
 }
 
 // Those of all ns supernodes.
 fn write_all(
+    matrix: &Matrix<'_>,
     ns: usize,
-    n: usize,
-    input_starts: &[usize],
-    input_rows: &[usize],
-    firsts: &[usize],
-    starts: &[usize],
-    rows: &[usize],
+    structure: &Structure<'_>,
     words: &mut [usize],
     us: &mut [Update],
 )
-    requires { 0 < ns → ToLay n ns input_starts.now input_rows.now firsts.now starts.now rows.now words.old (length us.old) }
-    ensures { Wrote n ns input_starts.now input_rows.now words.old words.new us.old us.new }
+    requires { 0 < ns → ToLay matrix.now.n ns matrix.now.starts.now matrix.now.rows.now structure.now.firsts.now structure.now.starts.now structure.now.rows.now words.old (length us.old) }
+    ensures { Wrote matrix.now.n ns matrix.now.starts.now matrix.now.rows.now words.old words.new us.old us.new }
 {
-    let mut k: usize = 0;
-    while k < ns {
-        let c = scan_one(
-            n,
-            ns,
-            input_starts,
-            input_rows,
-            firsts,
-            starts,
-            rows,
-            k,
-            words,
-        );
-        write_one(k, c, n, words, us);
-        k += 1;
+    for k in 0..ns {
+        let c = scan_one(matrix, ns, structure, k, words);
+        write_one(k, c, matrix.n, words, us);
     }
 }
 
@@ -91,30 +72,16 @@ fn last_place(ns: usize, n: usize, words: &[usize]) -> usize
 
 // Area 10: the updates of all ns supernodes, grouped by target, lower supernode first; the rest none.
 pub fn lay(
+    matrix: &Matrix<'_>,
     ns: usize,
-    n: usize,
-    input_starts: &[usize],
-    input_rows: &[usize],
-    firsts: &[usize],
-    starts: &[usize],
-    rows: &[usize],
+    structure: &Structure<'_>,
     words: &mut [usize],
     us: &mut [Update],
 )
-    requires { 0 < ns → ToLay n ns input_starts.now input_rows.now firsts.now starts.now rows.now words.old (length us.old) }
-    ensures { LaidOut n ns input_starts.now input_rows.now words.old words.new us.old us.new }
+    requires { 0 < ns → ToLay matrix.now.n ns matrix.now.starts.now matrix.now.rows.now structure.now.firsts.now structure.now.starts.now structure.now.rows.now words.old (length us.old) }
+    ensures { LaidOut matrix.now.n ns matrix.now.starts.now matrix.now.rows.now words.old words.new us.old us.new }
 {
-    write_all(
-        ns,
-        n,
-        input_starts,
-        input_rows,
-        firsts,
-        starts,
-        rows,
-        words,
-        us,
-    );
-    let total = last_place(ns, n, words);
-    clear_between(us, total, us.len());
+    write_all(matrix, ns, structure, words, us);
+    let total = last_place(ns, matrix.n, words);
+    clear(&mut us[total..]);
 }

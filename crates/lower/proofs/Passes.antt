@@ -27,7 +27,7 @@ use Rattle.laws.proofs.Entry.{get_d_map}
 use Rattle.laws.proofs.Sum.{sum_ext}
 use Rattle.areas.specs.Buckets.{start, Holds, Buckets, Beyond}
 use Rattle.areas.proofs.Buckets.{start_suc, buckets_start, buckets_ext, bucket_in, bucket_below, bucket_push, beyond_same, beyond_set, beyond_by}
-use Rattle.lower.specs.Entries.{originally, in_lower, lower_rows, lower_values, lower_start, Sited, spot, reached, Counted, Put}
+use Rattle.lower.specs.Entries.{originally, in_lower, lower_rows, lower_values, lower_start, Sited, Line, spot, reached, Counted, Put}
 use Rattle.lower.proofs.Spots.{spot_at, spot_in, value_at}
 
 -- starts are the sums of the lengths
@@ -60,6 +60,18 @@ pub record Putting (n : ℕ) (starts rows : List ℕ) (values : List Float) (r k
   pub beyond_rows : Beyond (lower_start n starts rows n) l₀ l
   pub beyond_values : Beyond (lower_start n starts rows n) v₀ v
   pub same_len : length next ≡ length next₀
+
+-- what is read and written for the entry at position q, where there is one before e
+pub record Counts (rows places counts : List ℕ) (q e : ℕ) : Type 0 where
+  pub in_places : q < e → get_or rows q 0 < length places
+  pub in_counts : q < e → get_or places (get_or rows q 0) 0 < length counts
+  pub few : q < e → get_or counts (get_or places (get_or rows q 0) 0) 0 ≤ 32768
+
+pub record Puts (rows places next l : List ℕ) (v : List Float) (q e : ℕ) : Type 0 where
+  pub in_places : q < e → get_or rows q 0 < length places
+  pub in_next : q < e → get_or places (get_or rows q 0) 0 < length next
+  pub in_rows : q < e → get_or next (get_or places (get_or rows q 0) 0) 0 < length l
+  pub in_values : q < e → get_or next (get_or places (get_or rows q 0) 0) 0 < length v
 
 -- ---- one upper column
 
@@ -177,14 +189,14 @@ module _ (n : ℕ) (starts rows perm places : List ℕ) (g : Sited n starts rows
 
   -- ---- counted
 
-  pub counting_begin : {counts : List ℕ} → Counted n starts rows r counts → Counting n starts rows r (get_or perm r 0) counts counts (get_or starts (get_or perm r 0) 0)
-  counting_begin w = record {
+  pub counting_begin : {counts : List ℕ} {a : ℕ} → a ≡ get_or starts (get_or perm r 0) 0 → Counted n starts rows r counts → Counting n starts rows r (get_or perm r 0) counts counts a
+  counting_begin e w = rw e (record {
     from = le_refl _;
     to = k_ends.3;
     room = w.room;
     is = λ c h. w.is c h ∙ sym (reach_begin c);
     same_len = refl;
-  }
+  })
 
   module _ {c₀ counts : List ℕ} {q : ℕ} (w : Counting n starts rows r (get_or perm r 0) c₀ counts q) where
     pub counting_more : (b : q < get_or starts (get_or perm r 0 + 1) 0)
@@ -203,12 +215,22 @@ module _ (n : ℕ) (starts rows perm places : List ℕ) (g : Sited n starts rows
         c = get_or places (get_or rows q 0) 0
 
     -- what the code reads and adds
-    pub counting_reads : (b : q < get_or starts (get_or perm r 0 + 1) 0)
+    counting_reads : (b : q < get_or starts (get_or perm r 0 + 1) 0)
         → (q < length rows) × (get_or rows q 0 < length places) × (get_or places (get_or rows q 0) 0 < length counts) × (get_or counts (get_or places (get_or rows q 0) 0) 0 ≤ n)
     counting_reads b =
         let c = col_in q w.from b in
         let e = col_reads q w.from b in
         (e.0, e.1, omega (arith, c, w.room), omega (arith, w.is _ c, reach_to q (get_or places (get_or rows q 0) 0)))
+
+    pub counting_ahead : {e : ℕ} → e ≡ get_or starts (get_or perm r 0 + 1) 0 → Counting n starts rows r (get_or perm r 0) c₀ counts q × Counts rows places counts q e
+    counting_ahead {e} z = (
+      w,
+      record {
+        in_places = λ h. (counting_reads (omega arith)).1;
+        in_counts = λ h. (counting_reads (omega arith)).2;
+        few = λ h. omega (arith, g.small, (counting_reads (omega arith)).3);
+      },
+    )
 
     pub counting_over : get_or starts (get_or perm r 0 + 1) 0 ≤ q → Counted n starts rows (suc r) counts
     counting_over h = record { room = w.room; is = λ c a. w.is c a ∙ reach_end q h c }
@@ -222,8 +244,8 @@ module _ (n : ℕ) (starts rows perm places : List ℕ) (g : Sited n starts rows
     abbrev F : ℕ → List Float
     F = lower_values n starts rows values
 
-    pub putting_begin : {next l : List ℕ} {v : List Float} → Put n starts rows values r next l v → Putting n starts rows values r (get_or perm r 0) next l v next l v (get_or starts (get_or perm r 0) 0)
-    putting_begin {next} {l} {v} w = record {
+    pub putting_begin : {next l : List ℕ} {v : List Float} {a : ℕ} → a ≡ get_or starts (get_or perm r 0) 0 → Put n starts rows values r next l v → Putting n starts rows values r (get_or perm r 0) next l v next l v a
+    putting_begin {next} {l} {v} e w = rw e (record {
       from = le_refl _;
       to = k_ends.3;
       in_rows = buckets_ext 0 B w.in_rows _ (λ c _. reach_begin c);
@@ -231,7 +253,7 @@ module _ (n : ℕ) (starts rows perm places : List ℕ) (g : Sited n starts rows
       beyond_rows = beyond_same _ l;
       beyond_values = beyond_same _ v;
       same_len = refl;
-    }
+    })
 
     module _ {next₀ l₀ : List ℕ} {v₀ : List Float} {next l : List ℕ} {v : List Float} {q : ℕ} (w : Putting n starts rows values r (get_or perm r 0) next₀ l₀ v₀ next l v q) where
       module _ (b : q < get_or starts (get_or perm r 0 + 1) 0) where
@@ -260,7 +282,7 @@ module _ (n : ℕ) (starts rows perm places : List ℕ) (g : Sited n starts rows
         value-is = col_value q w.from b values beside ∙ sym (get_d_map (λ r. entry_a (matrix n starts rows values) (permutation (stored starts rows) n) r c) (lower_rows n starts rows c) (reached n starts rows r q c) 0 nan more
             ∙ ap (λ x. entry_a (matrix n starts rows values) (permutation (stored starts rows) n) x c) row_is)
 
-        pub putting_reads : (get_or places (get_or rows q 0) 0 < length next) × (get_or next (get_or places (get_or rows q 0) 0) 0 < length l) × (get_or next (get_or places (get_or rows q 0) 0) 0 < length v)
+        putting_reads : (get_or places (get_or rows q 0) 0 < length next) × (get_or next (get_or places (get_or rows q 0) 0) 0 < length l) × (get_or next (get_or places (get_or rows q 0) 0) 0 < length v)
         putting_reads = (omega (arith, cn, w.in_rows.room), bucket_in 0 B w.in_rows c cn more, bucket_in nan F w.in_values c cn more_v)
 
         pub putting_more : {next' l' : List ℕ} {v' : List Float} → next' ≡ set next c (get_or next c 0 + 1) → l' ≡ set l (get_or next c 0) r → v' ≡ set v (get_or next c 0) (get_or values q nan)
@@ -278,11 +300,30 @@ module _ (n : ℕ) (starts rows perm places : List ℕ) (g : Sited n starts rows
             below : get_or next c 0 < lower_start n starts rows n
             below = bucket_below 0 B w.in_rows c cn more
 
+      pub putting_ahead : {e : ℕ} → e ≡ get_or starts (get_or perm r 0 + 1) 0 → Putting n starts rows values r (get_or perm r 0) next₀ l₀ v₀ next l v q × Puts rows places next l v q e
+      putting_ahead {e} z = (
+        w,
+        record {
+          in_places = λ h. (col_reads q w.from (omega arith)).1;
+          in_next = λ h. (putting_reads (omega arith)).0;
+          in_rows = λ h. (putting_reads (omega arith)).1;
+          in_values = λ h. (putting_reads (omega arith)).2;
+        },
+      )
+
       pub putting_over : get_or starts (get_or perm r 0 + 1) 0 ≤ q → Put n starts rows values (suc r) next l v
       putting_over h = record {
         in_rows = buckets_ext 0 B w.in_rows _ (λ c _. sym (reach_end q h c));
         in_values = buckets_ext nan F w.in_values _ (λ c _. sym (reach_end q h c));
       }
+
+-- the column at a place
+pub column_in : {n : ℕ} {starts rows perm places : List ℕ} → Sited n starts rows perm places → (r : ℕ) → r < n → get_or perm r 0 < n
+column_in {n} {starts} {rows} {perm} {places} g r h = k_in n starts rows perm places g r h
+
+pub line_is : {n : ℕ} {starts rows perm places : List ℕ} → Sited n starts rows perm places → (r : ℕ) → r < n
+    → Line starts rows (get_or perm r 0) (get_or starts (get_or perm r 0) 0) (get_or starts (get_or perm r 0 + 1) 0)
+line_is {n} {starts} {rows} {perm} {places} g r h = let k = k_ends n starts rows perm places g r h in record { begins = refl; ends = refl; rises = k.3; fits = k.2 }
 
 -- ---- all of them
 
@@ -300,9 +341,6 @@ module _ (n : ℕ) (starts rows : List ℕ) where
       zeros (suc m) zero = refl
       zeros (suc m) (suc j) = zeros m j
 
-  pub counted_next : {r : ℕ} {l : List ℕ} → Counted n starts rows (suc r) l → Counted n starts rows (r + 1) l
-  counted_next {r} w = rw (add-one r) w
-
   pub counted_over : {r : ℕ} {l : List ℕ} → Counted n starts rows r l → r ≤ n → n ≤ r → Holds (λ c. length (lower_rows n starts rows c)) n l
   counted_over {r} w a b = record { fits = w.room; at = λ c h. w.is c h ∙ ap (tally (in_lower n starts rows c)) (let z : r ≡ n = omega arith in z) ∙ sym (select_length (in_lower n starts rows c) n) }
 
@@ -317,9 +355,3 @@ module _ (n : ℕ) (starts rows : List ℕ) where
       in_rows = buckets_start 0 (lower_rows n starts rows) n next l g.fits f g.at;
       in_values = buckets_start nan (lower_values n starts rows values) n next v g.fits (omega (arith, starts_same n starts rows values n)) (λ j k. g.at j k ∙ sym (starts_same n starts rows values j));
     }
-
-    pub put_next : {r : ℕ} {next l : List ℕ} {v : List Float} → Put n starts rows values (suc r) next l v → Put n starts rows values (r + 1) next l v
-    put_next {r} w = rw (add-one r) w
-
-    pub put_over : {r : ℕ} {next l : List ℕ} {v : List Float} → Put n starts rows values r next l v → r ≤ n → n ≤ r → Put n starts rows values n next l v
-    put_over {r} {next} {l} {v} w a b = rw (let z : r ≡ n = omega arith in z) at w

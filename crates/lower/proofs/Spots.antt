@@ -16,7 +16,7 @@ use Rattle.laws.proofs.Bools.{lt_or_le}
 use Rattle.laws.proofs.Input.{column_to, column_at, stored_at}
 use Rattle.laws.proofs.Entry.{has_of_place}
 use Rattle.laws.proofs.Built.{place_sorted}
-use Rattle.areas.proofs.Lists.{get_d_any}
+use Rattle.std.proofs.lemmas.List.{get_or_default}
 use Rattle.lower.specs.Entries.{spot}
 
 module _ (n : ℕ) (starts rows : List ℕ) (wf : Columns n starts rows) (k : ℕ) (kn : k < n) where
@@ -66,7 +66,7 @@ module _ (n : ℕ) (starts rows : List ℕ) (wf : Columns n starts rows) (k : �
         ∙ get_or-drop (get_or starts k 0) (take (get_or starts (suc k) 0) values) x +0
         ∙ ap (λ y. get_or (take (get_or starts (suc k) 0) values) y +0) z
         ∙ get_or-take (get_or starts (suc k) 0) values q +0 b
-        ∙ get_d_any values q +0 nan (omega (arith, room))
+        ∙ get_or_default values q +0 nan (omega (arith, room))
 
     -- 0.0 where nothing is stored
     pub value_out : (i : ℕ) → stored starts rows i k ≡ false → value (matrix n starts rows values) i k ≡ +0

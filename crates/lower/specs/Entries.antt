@@ -39,6 +39,13 @@ pub record Sited (n : ℕ) (starts rows perm places : List ℕ) : Type 0 where
   pub perm_is : Holds (originally n starts rows) n perm
   pub places_are : Holds (pos (parent (stored starts rows) n) n) n places
 
+-- upper column k's entries stand from one position to below another
+pub record Line (starts rows : List ℕ) (k from to : ℕ) : Type 0 where
+  pub begins : from ≡ get_or starts k 0
+  pub ends : to ≡ get_or starts (k + 1) 0
+  pub rises : from ≤ to
+  pub fits : to ≤ length rows
+
 -- where row i stands in upper column k
 abbrev pub spot : List ℕ → List ℕ → ℕ → ℕ → ℕ
 spot starts rows i k = get_or starts k 0 + place i (column starts rows k)

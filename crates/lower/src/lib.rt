@@ -3,56 +3,11 @@
 
 ghost use Rattle.std.specs.Prelude.{◌≡◌, ℕ, suc, ◌+◌, ◌≤◌, ◌<◌, length, get_or, set, drop};
 ghost use Rattle.areas.specs.Buckets.{Holds, Beyond};
-ghost use Rattle.lower.specs.Entries.{Sited, Counted, Put, Lowered, lower_rows, lower_start};
+ghost use Rattle.lower.specs.Entries.{Sited, Line, Counted, Put, Lowered, lower_rows, lower_start};
 
 use areas::sums::sums;
-use areas::{copy_part, fill_part};
-
-// The entries of factor column r, each counted to its lower column.
-fn count_line(
-    n: usize,
-    starts: &[usize],
-    rows: &[usize],
-    permutation: &[usize],
-    places: &[usize],
-    r: usize,
-    counts: &mut [usize],
-)
-    requires r_lt_n { (r < n) × Sited n starts.now rows.now permutation.now places.now }
-    requires counted { Counted n starts.now rows.now r counts.old }
-    ensures { Counted n starts.now rows.now (suc r) counts.new }
-{
-    let k = permutation[r];
-    let e = starts[k + 1];
-    let mut p = starts[k];
-    while p < e {
-        let i = rows[p];
-        let c = places[i];
-        counts[c] = counts[c] + 1;
-        p += 1;
-    }
-}
-
-// How many entries each lower column has.
-fn count_lines(
-    n: usize,
-    starts: &[usize],
-    rows: &[usize],
-    permutation: &[usize],
-    places: &[usize],
-    counts: &mut [usize],
-)
-    requires sited { Sited n starts.now rows.now permutation.now places.now }
-    requires n_in_bounds { n ≤ length counts.old }
-    ensures { Holds (λ c. length (lower_rows n starts.now rows.now c)) n counts.new }
-{
-    fill_part(n, 0, counts);
-    let mut r = 0;
-    while r < n {
-        count_line(n, starts, rows, permutation, places, r, counts);
-        r += 1;
-    }
-}
+use std::ops::Range;
+use views::Matrix;
 
 // An entry at the end of lower column c.
 fn append(
@@ -74,125 +29,109 @@ fn append(
     to_values[at] = x;
 }
 
-// The entries of factor column r, each put to its lower column.
-fn put_line(
-    n: usize,
-    starts: &[usize],
-    rows: &[usize],
-    values: &[f64],
-    permutation: &[usize],
-    places: &[usize],
-    r: usize,
-    next: &mut [usize],
-    to_rows: &mut [usize],
-    to_values: &mut [f64],
-)
-    requires r_lt_n { (r < n) × (length values.now ≡ length rows.now) × Sited n starts.now rows.now permutation.now places.now }
-    requires put { Put n starts.now rows.now values.now r next.old to_rows.old to_values.old }
-    ensures put_2 { Put n starts.now rows.now values.now (suc r) next.new to_rows.new to_values.new }
-    ensures beyond { Beyond (lower_start n starts.now rows.now n) to_rows.old to_rows.new }
-    ensures beyond_2 { Beyond (lower_start n starts.now rows.now n) to_values.old to_values.new }
-{
-    let k = permutation[r];
-    let e = starts[k + 1];
-    let mut p = starts[k];
-    while p < e {
-        let i = rows[p];
-        append(places[i], r, values[p], next, to_rows, to_values);
-        p += 1;
+// A matrix by upper columns, the column at each place of the postorder, and the place of each column.
+#[derive(Clone, Copy)]
+pub struct Upper<'a> {
+    pub matrix: Matrix<'a>,
+    pub permutation: &'a [usize],
+    pub places: &'a [usize],
+    ghost sited: { Sited matrix.n matrix.starts.now matrix.rows.now permutation.now places.now },
+    ghost beside: { length matrix.values.now ≡ length matrix.rows.now },
+}
+
+impl Upper<'_> {
+    // Factor column r in the matrix's own numbering.
+    fn column(&self, r: usize) -> usize
+        requires { r < self.now.matrix.n }
+        ensures { (result ≡ get_or self.now.permutation.now r 0) × (result < self.now.matrix.n) }
+    {
+        self.permutation[r]
     }
-}
 
-// All entries, from the starts in next on.
-fn put_lines(
-    n: usize,
-    starts: &[usize],
-    rows: &[usize],
-    values: &[f64],
-    permutation: &[usize],
-    places: &[usize],
-    next: &mut [usize],
-    to_rows: &mut [usize],
-    to_values: &mut [f64],
-)
-    requires values_len { (length values.now ≡ length rows.now) × Sited n starts.now rows.now permutation.now places.now }
-    requires holds { Holds (lower_start n starts.now rows.now) n next.old }
-    requires rows_in_bounds { (length rows.now ≤ length to_rows.old) × (length rows.now ≤ length to_values.old) }
-    ensures { Put n starts.now rows.now values.now n next.new to_rows.new to_values.new }
-{
-    let mut r = 0;
-    while r < n {
-        put_line(
-            n,
-            starts,
-            rows,
-            values,
-            permutation,
-            places,
-            r,
-            next,
-            to_rows,
-            to_values,
-        );
-        r += 1;
+    // Where the entries of factor column r stand.
+    fn line(&self, r: usize) -> Range<usize>
+        requires { r < self.now.matrix.n }
+        ensures { Line self.now.matrix.starts.now self.now.matrix.rows.now (get_or self.now.permutation.now r 0) result.start result.end }
+    {
+        let k = self.column(r);
+        self.matrix.starts[k]..self.matrix.starts[k + 1]
     }
-}
 
-// The starts of the lower columns, in words, and again in next.
-fn begin_lines(
-    n: usize,
-    starts: &[usize],
-    rows: &[usize],
-    permutation: &[usize],
-    places: &[usize],
-    next: &mut [usize],
-    words: &mut [usize],
-)
-    requires sited { Sited n starts.now rows.now permutation.now places.now }
-    requires n_in_bounds { (n ≤ length next.old) × (n < length words.old) }
-    ensures holds { Holds (lower_start n starts.now rows.now) (suc n) words.new }
-    ensures holds_2 { Holds (lower_start n starts.now rows.now) n next.new }
-{
-    count_lines(n, starts, rows, permutation, places, next);
-    sums(n, next, words);
-    copy_part(n, words, next);
-}
+    // The entries of factor column r, each counted to its lower column. This loop and that of `put_line` share `line`, and what is left of
+    // each is one line: one walk with a closure would be longer.
+    fn count_line(&self, r: usize, counts: &mut [usize])
+        requires r_lt_n { r < self.now.matrix.n }
+        requires counted { Counted self.now.matrix.n self.now.matrix.starts.now self.now.matrix.rows.now r counts.old }
+        ensures { Counted self.now.matrix.n self.now.matrix.starts.now self.now.matrix.rows.now (suc r) counts.new }
+    {
+        let entries = self.line(r);
+        for p in entries.start..entries.end {
+            counts[self.places[self.matrix.rows[p]]] += 1;
+        }
+    }
 
-// The lower columns from the upper columns, the postorder and its places: in words the n + 1 starts and then the rows. next is scratch.
-pub fn lower(
-    n: usize,
-    input_starts: &[usize],
-    input_rows: &[usize],
-    input_values: &[f64],
-    permutation: &[usize],
-    places: &[usize],
-    next: &mut [usize],
-    words: &mut [usize],
-    to_values: &mut [f64],
-)
-    requires input_values_len { (length input_values.now ≡ length input_rows.now) × Sited n input_starts.now input_rows.now permutation.now places.now }
-    requires n_in_bounds { (n ≤ length next.old) × (n + 1 + length input_rows.now ≤ length words.old) × (length input_rows.now ≤ length to_values.old) }
-    ensures { Lowered n input_starts.now input_rows.now input_values.now words.new (drop (n + 1) words.new) to_values.new }
-{
-    begin_lines(
-        n,
-        input_starts,
-        input_rows,
-        permutation,
-        places,
-        next,
-        words,
-    );
-    let m = n + 1;
-    put_lines(
-        n,
-        input_starts,
-        input_rows,
-        input_values,
-        permutation,
-        places,
-        next,
-        &mut words[m..],
-        to_values,
-    );
+    // How many entries each lower column has.
+    fn count_lines(&self, counts: &mut [usize])
+        requires { self.now.matrix.n ≤ length counts.old }
+        ensures { Holds (λ c. length (lower_rows self.now.matrix.n self.now.matrix.starts.now self.now.matrix.rows.now c)) self.now.matrix.n counts.new }
+    {
+        counts[..self.matrix.n].fill(0);
+        for r in 0..self.matrix.n {
+            self.count_line(r, counts);
+        }
+    }
+
+    // The entries of factor column r, each put to its lower column.
+    fn put_line(&self, r: usize, next: &mut [usize], to_rows: &mut [usize], to_values: &mut [f64])
+        requires r_lt_n { r < self.now.matrix.n }
+        requires put { Put self.now.matrix.n self.now.matrix.starts.now self.now.matrix.rows.now self.now.matrix.values.now r next.old to_rows.old to_values.old }
+        ensures put_2 { Put self.now.matrix.n self.now.matrix.starts.now self.now.matrix.rows.now self.now.matrix.values.now (suc r) next.new to_rows.new to_values.new }
+        ensures beyond { Beyond (lower_start self.now.matrix.n self.now.matrix.starts.now self.now.matrix.rows.now self.now.matrix.n) to_rows.old to_rows.new }
+        ensures beyond_2 { Beyond (lower_start self.now.matrix.n self.now.matrix.starts.now self.now.matrix.rows.now self.now.matrix.n) to_values.old to_values.new }
+    {
+        let entries = self.line(r);
+        for p in entries.start..entries.end {
+            append(
+                self.places[self.matrix.rows[p]],
+                r,
+                self.matrix.values[p],
+                next,
+                to_rows,
+                to_values,
+            );
+        }
+    }
+
+    // All entries, from the starts in next on.
+    fn put_lines(&self, next: &mut [usize], to_rows: &mut [usize], to_values: &mut [f64])
+        requires holds { Holds (lower_start self.now.matrix.n self.now.matrix.starts.now self.now.matrix.rows.now) self.now.matrix.n next.old }
+        requires rows_in_bounds { (length self.now.matrix.rows.now ≤ length to_rows.old) × (length self.now.matrix.rows.now ≤ length to_values.old) }
+        ensures { Put self.now.matrix.n self.now.matrix.starts.now self.now.matrix.rows.now self.now.matrix.values.now self.now.matrix.n next.new to_rows.new to_values.new }
+    {
+        for r in 0..self.matrix.n {
+            self.put_line(r, next, to_rows, to_values);
+        }
+    }
+
+    // The starts of the lower columns, in words, and again in next.
+    fn begin_lines(&self, next: &mut [usize], words: &mut [usize])
+        requires { (self.now.matrix.n ≤ length next.old) × (self.now.matrix.n < length words.old) }
+        ensures holds { Holds (lower_start self.now.matrix.n self.now.matrix.starts.now self.now.matrix.rows.now) (suc self.now.matrix.n) words.new }
+        ensures holds_2 { Holds (lower_start self.now.matrix.n self.now.matrix.starts.now self.now.matrix.rows.now) self.now.matrix.n next.new }
+    {
+        let n = self.matrix.n;
+        self.count_lines(next);
+        sums(n, next, words);
+        next[..n].copy_from_slice(&words[..n]);
+    }
+
+    // The lower columns: in words the n + 1 starts and then the rows. next is scratch.
+    pub fn lower(&self, next: &mut [usize], words: &mut [usize], to_values: &mut [f64])
+        requires { (self.now.matrix.n ≤ length next.old) × (self.now.matrix.n + 1 + length self.now.matrix.rows.now ≤ length words.old) × (length self.now.matrix.rows.now ≤ length to_values.old) }
+        ensures { Lowered self.now.matrix.n self.now.matrix.starts.now self.now.matrix.rows.now self.now.matrix.values.now words.new (drop (self.now.matrix.n + 1) words.new) to_values.new }
+    {
+        self.begin_lines(next, words);
+        let m = self.matrix.n + 1;
+        self.put_lines(next, &mut words[m..], to_values);
+    }
 }

@@ -1,11 +1,11 @@
 -- From what each call leaves to what the run reads. Assumes nothing.
-use mathlib.Core.Path.{◌≡◌, sym, ap, ◌∙◌}
+use mathlib.Core.Path.{◌≡◌, refl, sym, ap, ◌∙◌}
 use mathlib.Core.Bool.{Bool}
 use mathlib.Core.List.{List, ◌++◌}
 use Prim.Native.Nat.{ℕ, ◌+◌, ◌*◌, ◌-◌, ◌≤◌, ◌<◌}
 use native.Mathlib.Omega.{arith}
 use lib.Dec.{T}
-use lib.ListN.{length, get_or, take, drop, replicate, length-append, length-replicate, get_or-replicate, get_or-append}
+use lib.ListN.{length, get_or, take, drop, replicate, length-append, length-drop, length-replicate, get_or-replicate, get_or-append}
 use lib.Ieee.{Float}
 use lib.Seq.{get_or-take, drop_at, drop-drop, length-take-le}
 use borrow.Rule.Slice.PartMut.{put_mid}
@@ -20,7 +20,7 @@ use Rattle.laws.proofs.FactorTree.{upper'}
 use Rattle.laws.proofs.Postorder.{pos}
 use Rattle.laws.proofs.Ranks.{list_length, list_at}
 use Rattle.laws.proofs.Shapes.{supernodes_few}
-use Rattle.areas.proofs.Tail.{tail_lent, tail_back, back_length, tail_length}
+use Rattle.areas.proofs.Tail.{tail_back, back_length, tail_length}
 use Rattle.lower.specs.Entries.{Lowered, Sited}
 use Rattle.lower.proofs.Bridge.{sited}
 use Rattle.offsets.specs.Lent.{Rising, Of}
@@ -44,8 +44,8 @@ w₁ n w lower = put_mid (starts_at n) (length w - starts_at n) w lower
 abbrev pub w₂ : ℕ → (w lower offsets : List ℕ) → List ℕ
 w₂ n w lower offsets = put_mid (offsets_at n) (length (w₁ n w lower) - offsets_at n) (w₁ n w lower) offsets
 
-abbrev pub w₃ : ℕ → (w lower offsets parents : List ℕ) → List ℕ
-w₃ n w lower offsets parents = put_mid (parents_at n) (length (w₂ n w lower offsets) - parents_at n) (w₂ n w lower offsets) parents
+abbrev pub w₃ : (n ns : ℕ) (w lower offsets parents : List ℕ) → List ℕ
+w₃ n ns w lower offsets parents = put_mid (parents_at n) (parents_at n + ns - parents_at n) (w₂ n w lower offsets) parents
 
 -- they stay as many
 module _ (n : ℕ) (w lower : List ℕ) (long : 24 * n + 24 ≤ length w) (k₁ : length lower ≡ length (part (starts_at n) w)) where
@@ -56,8 +56,8 @@ module _ (n : ℕ) (w lower : List ℕ) (long : 24 * n + 24 ≤ length w) (k₁ 
     pub long₂ : length (w₂ n w lower offsets) ≡ length w
     long₂ = back_length (offsets_at n) (w₁ n w lower) offsets (omega (arith, long₁)) k₂ ∙ long₁
 
-    pub long₃ : (parents : List ℕ) → length parents ≡ length (part (parents_at n) (w₂ n w lower offsets)) → length (w₃ n w lower offsets parents) ≡ length w
-    long₃ parents k₃ = back_length (parents_at n) (w₂ n w lower offsets) parents (omega (arith, long₂)) k₃ ∙ long₂
+    pub long₃ : (ns : ℕ) (parents : List ℕ) → ns ≤ n → length parents ≡ ns → length (w₃ n ns w lower offsets parents) ≡ length w
+    long₃ ns parents h k₃ = (wrote (parents_at n) (parents_at n + ns - parents_at n) parents (w₂ n w lower offsets) (w₃ n ns w lower offsets parents) (omega (arith, long₂)) (omega (arith, k₃)) refl).len ∙ long₂
 
 -- ---- what the calls ask
 module _ {M : Matrix} {ns : ℕ} {permutation firsts starts tasks : List ℕ} (k : Known M ns permutation firsts starts tasks) where
@@ -91,14 +91,14 @@ module _ {M : Matrix} {ns : ℕ} {permutation firsts starts tasks : List ℕ} (k
   pub tasks_long : M.n + ns ≤ length tasks
   tasks_long = omega (arith, ap length k.tasks_are, length-append (list (pos (parent (pattern M) M.n) M.n) M.n) ((shape_for M).parents ++ k.tasks_rest), length-append (shape_for M).parents k.tasks_rest, list_length (pos (parent (pattern M) M.n) M.n) M.n, parents_many)
 
-  parent_at : (K : ℕ) → K < ns → get_or (take ns (take (length tasks - M.n) (drop M.n tasks))) K 0 ≡ parent_of (shape_for M) K
-  parent_at K h = get_or-take ns _ K 0 h ∙ ap (λ l. get_or l K 0) (tail_lent M.n tasks ∙ past_places) ∙ get_or-append (shape_for M).parents k.tasks_rest 0 K (omega (arith, parents_many))
+  parent_at : (K : ℕ) → K < ns → get_or (take ns (drop M.n tasks)) K 0 ≡ parent_of (shape_for M) K
+  parent_at K h = get_or-take ns _ K 0 h ∙ ap (λ l. get_or l K 0) past_places ∙ get_or-append (shape_for M).parents k.tasks_rest 0 K (omega (arith, parents_many))
 
   -- what they leave: the lower columns, the offsets, the parents, the flags
   module _ (w lower offsets parents l : List ℕ) (long : 24 * M.n + 24 ≤ length w) (k₁ : length lower ≡ length (part (starts_at M.n) w))
       (e₂ : offsets ≡ list (offset (shape_for M)) ns ++ drop ns (part (offsets_at M.n) (w₁ M.n w lower)))
-      (e₃ : parents ≡ take ns (part M.n tasks) ++ drop ns (part (parents_at M.n) (w₂ M.n w lower offsets)))
-      (e₄ : l ≡ replicate (M.n + 1) 0 ++ drop (M.n + 1) (w₃ M.n w lower offsets parents)) where
+      (e₃ : parents ≡ take ns (drop M.n tasks))
+      (e₄ : l ≡ replicate (M.n + 1) 0 ++ drop (M.n + 1) (w₃ M.n ns w lower offsets parents)) where
     same : length (w₁ M.n w lower) ≡ length w
     same = long₁ M.n w lower long k₁
 
@@ -111,17 +111,18 @@ module _ {M : Matrix} {ns : ℕ} {permutation firsts starts tasks : List ℕ} (k
     second : Wrote (offsets_at M.n) (list (offset (shape_for M)) ns) (w₁ M.n w lower) (w₂ M.n w lower offsets)
     second = wrote_part (offsets_at M.n) ns (list (offset (shape_for M)) ns) (w₁ M.n w lower) offsets (omega (arith, same, fewer)) offsets_long e₂
 
-    copied_long : length (take ns (part M.n tasks)) ≡ ns
-    copied_long = length-take-le ns (part M.n tasks) (room M.n ns tasks tasks_long)
+    copied_long : length (take ns (drop M.n tasks)) ≡ ns
+    copied_long = length-take-le ns (drop M.n tasks) (omega (arith, tasks_long, length-drop M.n tasks))
 
-    third : Wrote (parents_at M.n) (take ns (part M.n tasks)) (w₂ M.n w lower offsets) (w₃ M.n w lower offsets parents)
-    third = wrote_part (parents_at M.n) ns (take ns (part M.n tasks)) (w₂ M.n w lower offsets) parents (omega (arith, second.len, same, fewer)) copied_long e₃
+    third : Wrote (parents_at M.n) (take ns (drop M.n tasks)) (w₂ M.n w lower offsets) (w₃ M.n ns w lower offsets parents)
+    third = wrote (parents_at M.n) (parents_at M.n + ns - parents_at M.n) (take ns (drop M.n tasks)) (w₂ M.n w lower offsets) (w₃ M.n ns w lower offsets parents) (omega (arith, second.len, same, fewer)) (omega (arith, copied_long))
+        (ap (λ z. put_mid (parents_at M.n) (parents_at M.n + ns - parents_at M.n) (w₂ M.n w lower offsets) z) e₃)
 
     flags_long : length {A = ℕ} (replicate (M.n + 1) 0) ≡ M.n + 1
     flags_long = length-replicate (M.n + 1) 0
 
-    fourth : Wrote 0 (replicate (M.n + 1) 0) (w₃ M.n w lower offsets parents) l
-    fourth = wrote 0 (M.n + 1) (replicate (M.n + 1) 0) (w₃ M.n w lower offsets parents) l (omega (arith, third.len, second.len, same)) flags_long e₄
+    fourth : Wrote 0 (replicate (M.n + 1) 0) (w₃ M.n ns w lower offsets parents) l
+    fourth = wrote 0 (M.n + 1) (replicate (M.n + 1) 0) (w₃ M.n ns w lower offsets parents) l (omega (arith, third.len, second.len, same)) flags_long e₄
 
     lower_stays : drop (starts_at M.n) l ≡ lower
     lower_stays = fourth.past (starts_at M.n) (omega (arith, flags_long)) ∙ third.past (starts_at M.n) (omega (arith, copied_long, fewer)) ∙ second.past (starts_at M.n) (omega (arith, offsets_long, fewer)) ∙ lower_back

@@ -5,7 +5,7 @@ use Prim.Native.Nat.{ℕ, ◌+◌, ◌-◌, ◌≤◌}
 use native.Mathlib.Omega.{arith}
 use lib.ListN.{length, take, drop, replicate, length-replicate, replicate-append-replicate}
 use lib.Seq.{take-append_seam}
-use Rattle.areas.proofs.Held.{drop-replicate}
+use Rattle.std.proofs.lemmas.List.{drop-replicate}
 
 -- k zeros in front of the rest of m zeros
 pub zeros_over : (k j m : ℕ) (d : List ℕ) → j ≡ k → k ≤ m → d ≡ replicate m 0 → replicate k 0 ++ drop j d ≡ replicate m 0

@@ -7,6 +7,7 @@ use Rattle.statement.specs.Supernodes.{owner, below, updates_of}
 use Rattle.statement.specs.Areas.{no_update}
 use Rattle.statement.specs.declared.Update.{Update}
 use Rattle.laws.specs.Numbered.{shape}
+use Rattle.views.specs.declared.Columns as views
 use Rattle.areas.specs.Buckets.{Holds, Buckets}
 
 -- where J's columns begin among K's rows
@@ -25,6 +26,10 @@ met S K t J = tally (λ I. hits S I J) K + bit (hits S K J && leb J t)
 
 abbrev pub shaped : ℕ → List ℕ → List ℕ → Shape
 shaped n starts rows = shape (stored starts rows) n
+
+-- that of a matrix's columns
+abbrev pub shape_in : views.Columns → Shape
+shape_in m = shaped m.n m.starts.now m.rows.now
 
 -- n columns in ns supernodes: the first columns, the supernode of each column, the row starts and the rows
 pub record Laid (n ns : ℕ) (starts rows firsts own from list : List ℕ) : Type 0 where

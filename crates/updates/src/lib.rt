@@ -4,7 +4,7 @@
 ghost use Rattle.std.specs.Prelude.{◌≡◌, ◌++◌, suc, ◌+◌, ◌-◌, ◌^◌, ◌≤◌, ◌<◌, length, get_or, drop};
 ghost use Rattle.statement.specs.Supernodes.{updates_of, updates, update_starts};
 ghost use Rattle.areas.specs.Buckets.{Holds};
-ghost use Rattle.updates.specs.Scan.{shaped, Laid, Past, RunEnd, Counted};
+ghost use Rattle.updates.specs.Scan.{shaped, shape_in, Laid, Past, RunEnd, Counted};
 ghost use Rattle.updates.specs.Layout.{places_at, offsets_at};
 ghost use Rattle.updates.specs.Laying.{spotted, ToScan, Scanned};
 
@@ -47,8 +47,8 @@ impl Supernodes<'_> {
     // Supernode k's updates, counted.
     fn count_one(&self, k: usize, counts: &mut [usize])
         requires k_lt_ns { k < self.now.ns }
-        requires counted { Counted (shaped self.now.matrix.n self.now.matrix.starts.now self.now.matrix.rows.now) k counts.old }
-        ensures { Counted (shaped self.now.matrix.n self.now.matrix.starts.now self.now.matrix.rows.now) (suc k) counts.new }
+        requires counted { Counted (shape_in self.now.matrix) k counts.old }
+        ensures { Counted (shape_in self.now.matrix) (suc k) counts.new }
     {
         let s = &self.structure;
         let mut p = past(s, k);
@@ -63,7 +63,7 @@ impl Supernodes<'_> {
     // How many updates each has.
     fn count_all(&self, counts: &mut [usize])
         requires { self.now.ns ≤ length counts.old }
-        ensures { Holds (λ J. length (updates_of (shaped self.now.matrix.n self.now.matrix.starts.now self.now.matrix.rows.now) J)) self.now.ns counts.new }
+        ensures { Holds (λ J. length (updates_of (shape_in self.now.matrix) J)) self.now.ns counts.new }
     {
         counts[..self.ns].fill(0);
         for k in 0..self.ns {
@@ -74,8 +74,8 @@ impl Supernodes<'_> {
     // Where the updates of each target start; how many there are.
     pub fn update_starts(&self, counts: &mut [usize], to: &mut [usize]) -> usize
         requires { (self.now.ns ≤ length counts.old) × (self.now.ns < length to.old) }
-        ensures value { result ≡ length (updates (shaped self.now.matrix.n self.now.matrix.starts.now self.now.matrix.rows.now)) }
-        ensures to_after { to.new ≡ update_starts (shaped self.now.matrix.n self.now.matrix.starts.now self.now.matrix.rows.now) ++ drop (suc self.now.ns) to.old }
+        ensures value { result ≡ length (updates (shape_in self.now.matrix)) }
+        ensures to_after { to.new ≡ update_starts (shape_in self.now.matrix) ++ drop (suc self.now.ns) to.old }
     {
         self.count_all(counts);
         sums(self.ns, counts, to);
