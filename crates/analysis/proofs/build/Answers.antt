@@ -7,7 +7,7 @@ use native.Mathlib.Omega.{arith}
 use Rattle.analysis.proofs.build.Goals as goal
 
 pub returns-then-room-need-clause-refused : goal.returns-then-room-need-clause-refused
-returns-then-room-need-clause-refused c = nine_short _ _ _ _ c.numbered-sizes.ensures.many c.if-room-need.true
+returns-then-room-need-clause-refused c = nine_short (stored c.args.matrix.now.starts.now c.args.matrix.now.rows.now) c.args.matrix.now.n c.args.entries c.args.room c.numbered-sizes.ensures.many c.if-room-need.true
 
 pub filled-found-requires : goal.filled-found-requires
 filled-found-requires c =
@@ -23,7 +23,7 @@ filled-found-requires c =
 pub returns-in_err-verdict-clause-refused : goal.returns-in_err-verdict-clause-refused
 returns-in_err-verdict-clause-refused c =
     let f = c.filled-found.ensures.updates_value in
-    rw (exit_is c.from_residual.ensures.1) (verdict_some _ _ _ _ c.numbered-sizes.ensures.many f.0 f.1 c.in_err-verdict.ensures)
+    rw (exit_is c.from_residual.ensures.1) (verdict_some (stored c.args.matrix.now.starts.now c.args.matrix.now.rows.now) c.args.matrix.now.n c.args.entries c.args.room c.numbered-sizes.ensures.many f.0 f.1 c.in_err-verdict.ensures)
 
 pub returns-clause-passed : goal.returns-clause-passed
 returns-clause-passed c =
@@ -31,7 +31,7 @@ returns-clause-passed c =
     let w = c.numbered-sizes.ensures in
     let f = c.filled-found.ensures in
     record {
-      calm = verdict_none _ _ _ _ w.many f.updates_value.0 f.updates_value.1 c.in_ok-verdict.ensures;
+      calm = verdict_none (stored c.args.matrix.now.starts.now c.args.matrix.now.rows.now) c.args.matrix.now.n c.args.entries c.args.room w.many f.updates_value.0 f.updates_value.1 c.in_ok-verdict.ensures;
       numbered = w;
       count = f.updates_value.0;
       four = groups_same w c.numbered-sizes.new.groups a.groups.now f.groups_after (omega (arith, c.numbered-sizes.auto));

@@ -3,12 +3,15 @@ use Rattle.laws.specs.Numbered.{shape}
 use Rattle.statement.specs.Supernodes.{update_starts}
 use Rattle.statement.specs.Input.{stored}
 use Prim.Native.Nat.{suc}
+use Rattle.areas.proofs.Tail.{tail_lent}
 use Rattle.analysis.proofs.Linked.{starts_begun, laid_of, over_cleared}
 use native.Mathlib.Omega.{arith}
 use Rattle.analysis.proofs.filled.Goals as goal
 
 pub invariant_of-numbering : goal.invariant_of-numbering
-invariant_of-numbering c = record { given = c.requires.placed.given }
+invariant_of-numbering c =
+    let a = c.args in
+    record { given = rw (tail_lent a.matrix.now.n a.tasks.now) c.requires.placed.given }
 
 pub structure-differs-requires : goal.structure-differs-requires
 structure-differs-requires c =
