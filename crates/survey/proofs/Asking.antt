@@ -9,11 +9,9 @@ use Rattle.statement.specs.Input.{Matrix}
 use Rattle.statement.specs.declared.Room.{Room}
 use Rattle.tasks.specs.Given.{Sized, Above, Given}
 use Rattle.tasks.proofs.Formed.{asked}
-use Rattle.updates.specs.Laying.{ToLay}
-use Rattle.survey.specs.Laid.{Laid, Surveyed}
+use Rattle.survey.specs.Laid.{Laid}
 use Rattle.survey.specs.declared.Findings.{Findings}
 use Rattle.survey.proofs.Surveying.{long}
-use Rattle.survey.proofs.Settling.{accepted_or}
 use Rattle.survey.proofs.Reading.{held_is, fewer, enough_words, parents_past}
 
 module _ {M : Matrix} {cap : ℕ} {r : Room} {s : Findings} {permutation firsts starts groups tasks words nine : List ℕ} (l : Laid M cap r s permutation firsts starts groups tasks words nine) where
@@ -32,8 +30,3 @@ module _ {M : Matrix} {cap : ℕ} {r : Room} {s : Findings} {permutation firsts 
       let w = enough_words M r l.room in
       let m = l.many_supernodes in
       ((omega (arith, n.five, a), all.0.0, all.0.1), ((omega (arith, f, m, l.well.small), omega (arith, f, m, w, c)), (omega (arith, f, m, n.five, a), omega (arith, f, m, n.six, b))))
-
--- where there are supernodes, it was accepted
-pub lay_asked : {M : Matrix} {cap : ℕ} {r : Room} {x : Findings} {permutation firsts starts groups tasks words nine : List ℕ} → Surveyed M cap r x permutation firsts starts groups tasks words nine
-    → (ns : ℕ) → ns ≡ x.supernodes → 0 < ns → ToLay M.n ns M.starts M.rows firsts starts nine words r.updates
-lay_asked {x = x} s ns e h = accepted_or x.answer (λ q. rw e (s.go q).laying) (λ q. absurd (omega (arith, s.idle q)))

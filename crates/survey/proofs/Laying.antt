@@ -8,7 +8,6 @@ use lib.Seq.{length-take-le, drop_at, drop-drop}
 use borrow.Rule.Slice.PartMut.{put_mid}
 use Rattle.statement.specs.Input.{Columns, stored}
 use Rattle.statement.specs.Supernodes.{updates}
-use Rattle.statement.specs.declared.Answer.TheVariants.{Accepted}
 use Rattle.statement.specs.declared.Room.{Room}
 use Rattle.areas.specs.Buckets.{Holds}
 use Rattle.areas.proofs.Parts.{holds_copied}
@@ -58,14 +57,14 @@ module _ (n : ℕ) (w owners : List ℕ) (long : offsets_at n ≤ length w) (kep
 -- what is laid, over any words that have the owners and the starts
 pub to_lay : {n entries ns many updates' : ℕ} {r : Room} {input_starts input_rows permutation₀ firsts₀ starts₀ groups₀ tasks₀ nine₀ permutation firsts starts groups tasks owners nine : List ℕ} (words d : List ℕ)
     → Columns n input_starts input_rows → n ≤ 32768
-    → Analysed (stored input_starts input_rows) n entries r Accepted ns many updates' permutation₀ firsts₀ starts₀ groups₀ tasks₀ nine₀ permutation firsts starts groups tasks owners nine
+    → Analysed (stored input_starts input_rows) n entries r ns many updates' permutation₀ firsts₀ starts₀ groups₀ tasks₀ nine₀ permutation firsts starts groups tasks owners nine
     → n ≤ length owners → drop (owners_at n) words ≡ owners → drop (places_at n) words ≡ take ns groups ++ d → offsets_at n ≤ length words
     → ToLay n ns input_starts input_rows firsts starts nine words r.updates
 to_lay {n} {entries} {ns} {r = r} {input_starts} {input_rows} {nine = nine} words d formed small z long o g room =
-    let w = z.numbered refl in
+    let w = z.numbered in
     record {
-      laid = rw o (laid_of (placed_of n input_starts input_rows formed small w long) _ (z.area_nine refl));
-      next = holds_copied d (fewer_held (groups_hold (shaped n input_starts input_rows) _ w.number (z.four refl))) g;
+      laid = rw o (laid_of (placed_of n input_starts input_rows formed small w long) _ z.area_nine);
+      next = holds_copied d (fewer_held (groups_hold (shaped n input_starts input_rows) _ w.number z.four)) g;
       room = room;
-      fits = ten_fits (stored input_starts input_rows) n entries r z.answers;
+      fits = ten_fits (stored input_starts input_rows) n entries r z.calm;
     }

@@ -1,9 +1,8 @@
 -- From the tests and lists of each phase to those of the survey. Assumes nothing.
 use mathlib.Core.Path.{◌≡◌, refl, sym, ap, ◌∙◌}
-use mathlib.Core.Logic.{◌≢◌}
 use mathlib.Core.Bool.{Bool}
 use mathlib.Core.List.{List, ◌++◌}
-use mathlib.Core.Option.{none}
+use mathlib.Core.Option.{none, some}
 use Prim.Native.Nat.{ℕ, suc, ◌+◌, ◌-◌, ◌*◌, ◌≤◌}
 use native.Mathlib.Omega.{arith}
 use lib.ListN.{length, take, drop, replicate, length-append}
@@ -13,11 +12,10 @@ use Rattle.statement.specs.Fill.{parent, count, entries}
 use Rattle.statement.specs.Postorder as postorder
 use Rattle.statement.specs.Supernodes.{shape_of, updates, update_starts}
 use Rattle.statement.specs.Answers.{test, or_else}
-use Rattle.laws.specs.Answered.{answered}
 use Rattle.statement.specs.Areas.{short, needs}
 use Rattle.statement.specs.Calls.{analysis, factor_needs, factor_later, later}
 use Rattle.statement.specs.declared.Answer.{Answer}
-use Rattle.statement.specs.declared.Answer.TheVariants.{Accepted, WrongStructure}
+use Rattle.statement.specs.declared.Answer.TheVariants.{WrongStructure}
 use Rattle.statement.specs.declared.Room.{Room}
 use Rattle.laws.specs.Numbered.{factored, shape, shape_for}
 use Rattle.laws.proofs.Exactly.{structure_never}
@@ -31,23 +29,18 @@ use Rattle.laws.proofs.Ranks.{list_length}
 use Rattle.areas.proofs.Lists.{front_take}
 use Rattle.areas.proofs.Held.{held_over}
 use Rattle.measure.specs.Sized.{measure_fault, Sized}
-use Rattle.measure.specs.declared.Totals.{Totals}
-use Rattle.measure.proofs.Stages.{or_first, or_next, short_none}
+use Rattle.laws.proofs.Passed.{or_none, or_some}
 use Rattle.analysis.specs.Phases.{Enough, Numbered, Analysed, later_needs}
 use Rattle.updates.specs.Layout.{places_at, owners_at}
-use Rattle.survey.specs.Laid.{structure_fault, Laid, Surveyed, Blank}
+use Rattle.survey.specs.Laid.{structure_fault, Laid, Blank}
 use Rattle.survey.specs.declared.Findings.{Findings}
 use Rattle.survey.proofs.Zeros.{zeros_over, zeros_length, zeros_after}
 use Rattle.survey.proofs.Laying.{to_lay}
 
 module _ (M : Matrix) (cap : ℕ) (r : Room) where
-  -- refused with a
-  pub stopped : (x : Findings) (a : Answer) {permutation firsts starts groups tasks words nine : List ℕ} → (x.answer ≡ a) × (x.supernodes ≡ 0) → a ≢ Accepted → a ≡ answered (structure_fault M cap r) → Surveyed M cap r x permutation firsts starts groups tasks words nine
-  stopped x a e h f = record { ans = e.0 ∙ f; go = λ q. absurd (h (sym e.0 ∙ q)); idle = λ _. e.1 }
-
-  pub at_measure : answered (measure_fault M cap r) ≢ Accepted → answered (measure_fault M cap r) ≡ answered (structure_fault M cap r)
+  pub at_measure : {a : Answer} → measure_fault M cap r ≡ some a → structure_fault M cap r ≡ some a
   unfolding structure_fault
-  at_measure h = or_first (measure_fault M cap r) _ h
+  at_measure e = or_some (measure_fault M cap r) _ e
 
   -- what areas 9 to 11 need, by the entries counted
   same_needs : (e : ℕ) → e ≡ entries (pattern M) M.n → later_needs (pattern M) M.n e r ≡ factor_later (analysis M) r
@@ -55,17 +48,17 @@ module _ (M : Matrix) (cap : ℕ) (r : Room) where
   same_needs e q = rw q
 
   module _ (calm : measure_fault M cap r ≡ none) (e : ℕ) (q : e ≡ entries (pattern M) M.n) where
-    pub at_later : answered (short (later_needs (pattern M) M.n e r)) ≢ Accepted → answered (short (later_needs (pattern M) M.n e r)) ≡ answered (structure_fault M cap r)
+    pub at_later : {a : Answer} → short (later_needs (pattern M) M.n e r) ≡ some a → structure_fault M cap r ≡ some a
     unfolding structure_fault
-    at_later h = or_first (short (later_needs (pattern M) M.n e r)) _ h ∙ ap (λ l. answered (or_else (short l) (test (analysis M).differs WrongStructure none))) (same_needs e q) ∙ sym (ap answered (or_next (measure_fault M cap r) _ calm))
+    at_later h = or_none (measure_fault M cap r) _ calm ∙ or_some (short (factor_later (analysis M) r)) _ (sym (ap short (same_needs e q)) ∙ h)
 
-    module _ (well : WellFormed M) (b : answered (short (later_needs (pattern M) M.n e r)) ≡ Accepted) where
+    module _ (well : WellFormed M) (b : short (later_needs (pattern M) M.n e r) ≡ none) where
       pub enough_later : short (factor_later (analysis M) r) ≡ none
-      enough_later = sym (ap short (same_needs e q)) ∙ short_none _ b
+      enough_later = sym (ap short (same_needs e q)) ∙ b
 
       pub past_later : structure_fault M cap r ≡ none
       unfolding structure_fault test
-      past_later = or_next (measure_fault M cap r) _ calm ∙ or_next (short (factor_later (analysis M) r)) _ enough_later ∙ rw (structure_never M well)
+      past_later = or_none (measure_fault M cap r) _ calm ∙ or_none (short (factor_later (analysis M) r)) _ enough_later ∙ rw (structure_never M well)
 
 -- how long the areas are once the needs are met
 pub record Long (n : ℕ) (r : Room) : Type 0 where
@@ -90,7 +83,7 @@ long M r e = let m = (short_passed _).0 e in record {
 }
 
 module _ (M : Matrix) (cap : ℕ) (r : Room) {permutation₀ firsts₀ starts₀ groups₀ tasks₀ top₀ words₀ nine₀ : List ℕ} (blank : Blank r permutation₀ firsts₀ starts₀ groups₀ tasks₀ top₀ words₀ nine₀)
-    (t : Totals) (groups₁ tasks₁ top₁ : List ℕ) (sized : Sized M cap r t groups₀ tasks₀ top₀ groups₁ tasks₁ top₁) where
+    (many work' : ℕ) (groups₁ tasks₁ top₁ : List ℕ) (sized : Sized M cap r many work' groups₀ tasks₀ top₀ groups₁ tasks₁ top₁) where
   n : ℕ
   n = M.n
 
@@ -126,10 +119,10 @@ module _ (M : Matrix) (cap : ℕ) (r : Room) {permutation₀ firsts₀ starts₀
     -- ---- what it leaves
 
     module _ (x : Findings) (ns : ℕ) {permutation firsts starts groups tasks owners nine : List ℕ}
-        (z : Analysed (pattern M) M.n t.entries r Accepted ns x.rows x.updates permutation₀ firsts₀ starts₀ groups₁ tasks₁ (replicate r.rows 0) permutation firsts starts groups tasks owners nine)
-        (xs : x.supernodes ≡ ns) (xe : x.entries ≡ t.entries) (xw : x.work ≡ t.work) where
+        (z : Analysed (pattern M) M.n many r ns x.rows x.updates permutation₀ firsts₀ starts₀ groups₁ tasks₁ (replicate r.rows 0) permutation firsts starts groups tasks owners nine)
+        (xs : x.supernodes ≡ ns) (xe : x.entries ≡ many) (xw : x.work ≡ work') where
       h : Numbered (pattern M) M.n ns x.rows permutation₀ firsts₀ starts₀ tasks₁ permutation firsts starts tasks owners
-      h = z.numbered refl
+      h = z.numbered
 
       firsts_many : suc ns ≡ length (shape_for M).firsts
       unfolding shape_of
@@ -152,44 +145,38 @@ module _ (M : Matrix) (cap : ℕ) (r : Room) {permutation₀ firsts₀ starts₀
 
       pub laid : (words d : List ℕ) → M.n ≤ length owners → drop (owners_at M.n) words ≡ owners → drop (places_at M.n) words ≡ take ns groups ++ d → length words ≡ length words₀ → Laid M cap r x permutation firsts starts groups tasks words nine
       laid words d long o g k = record {
-        calm = past_later M cap r sized.calm t.entries sized.entries sized.well (sym z.answers);
+        calm = past_later M cap r sized.calm many sized.entries sized.well z.calm;
         well = sized.well;
         room = sized.room;
-        later = enough_later M cap r sized.calm t.entries sized.entries sized.well (sym z.answers);
+        later = enough_later M cap r sized.calm many sized.entries sized.well z.calm;
         many_supernodes = xs ∙ h.number;
         many_rows = h.many;
-        many_updates = z.count refl;
+        many_updates = z.count;
         entries_are = xe ∙ sized.entries;
         work_is = xw ∙ sized.work;
         one = held_over r.permutation 0 _ M.n order_many blank.one h.one;
         two = held_over r.firsts 0 _ (suc ns) firsts_many (zeros_over (suc M.n) (M.n + 1) r.firsts firsts₀ (omega arith) (omega (arith, l.two)) blank.two) h.two;
         three = held_over r.starts 0 _ (suc ns) starts_many (zeros_over (suc M.n) (M.n + 1) r.starts starts₀ (omega arith) (omega (arith, l.three)) blank.three) h.three;
-        four = held_over r.groups 0 _ (suc ns) groups_many (ap (λ m. replicate m 0) groups_length) (z.four refl);
+        four = held_over r.groups 0 _ (suc ns) groups_many (ap (λ m. replicate m 0) groups_length) z.four;
         rest = drop ns (drop M.n tasks₁);
         five = h.five;
-        nine_holds = held_over r.rows 0 _ _ refl refl (z.area_nine refl);
+        nine_holds = held_over r.rows 0 _ _ refl refl z.area_nine;
         laying = rw xs (to_lay words d sized.well.columns sized.well.small z long o g (omega (arith, k, words_long)));
       }
-
--- what was built, once its answer is known
-pub accepted_form : {s : ℕ → ℕ → Bool} {n e : ℕ} {r : Room} {a : Answer} {ns rows updates : ℕ} {permutation₀ firsts₀ starts₀ groups₀ tasks₀ nine₀ permutation firsts starts groups tasks words nine : List ℕ} → a ≡ Accepted
-    → Analysed s n e r a ns rows updates permutation₀ firsts₀ starts₀ groups₀ tasks₀ nine₀ permutation firsts starts groups tasks words nine
-    → Analysed s n e r Accepted ns rows updates permutation₀ firsts₀ starts₀ groups₀ tasks₀ nine₀ permutation firsts starts groups tasks words nine
-accepted_form q h = rw q at h
 
 -- ---- zeros behind the rows: as if area 9 had been zero before
 
 module _ {s : ℕ → ℕ → Bool} {n e : ℕ} {r : Room} {ns rows updates : ℕ} {permutation₀ firsts₀ starts₀ groups₀ tasks₀ nine₀ permutation firsts starts groups tasks words nine : List ℕ}
-    (z : Analysed s n e r Accepted ns rows updates permutation₀ firsts₀ starts₀ groups₀ tasks₀ nine₀ permutation firsts starts groups tasks words nine) where
+    (z : Analysed s n e r ns rows updates permutation₀ firsts₀ starts₀ groups₀ tasks₀ nine₀ permutation firsts starts groups tasks words nine) where
   pub rows_there : rows ≤ length nine
-  rows_there = omega (arith, (z.numbered refl).many, ap length (z.area_nine refl), length-append (shape s n).rows (drop (length (shape s n).rows) nine₀))
+  rows_there = omega (arith, z.numbered.many, ap length z.area_nine, length-append (shape s n).rows (drop (length (shape s n).rows) nine₀))
 
   pub zeros_behind : {nine' : List ℕ} → length nine ≡ r.rows → nine' ≡ take rows nine ++ replicate (length nine - rows) 0
-      → Analysed s n e r Accepted ns rows updates permutation₀ firsts₀ starts₀ groups₀ tasks₀ (replicate r.rows 0) permutation firsts starts groups tasks words nine'
+      → Analysed s n e r ns rows updates permutation₀ firsts₀ starts₀ groups₀ tasks₀ (replicate r.rows 0) permutation firsts starts groups tasks words nine'
   zeros_behind k q = record {
-    answers = z.answers;
+    calm = z.calm;
     numbered = z.numbered;
     count = z.count;
     four = z.four;
-    area_nine = λ _. zeros_after (shape s n).rows _ r.rows (z.numbered refl).many (z.area_nine refl) k q;
+    area_nine = zeros_after (shape s n).rows _ r.rows z.numbered.many z.area_nine k q;
   }

@@ -1,5 +1,5 @@
 -- All tests of the structure, and what stands in the areas once they pass. Definitions only.
-use Rattle.std.specs.Prelude.{◌≡◌, ◌≢◌, List, ◌++◌, ℕ, ◌*◌, length, replicate}
+use Rattle.std.specs.Prelude.{◌≡◌, List, ◌++◌, ℕ, ◌*◌, length, replicate}
 use Rattle.std.proofs.Math.Option.{Option, none}
 use Rattle.statement.specs.Lists.{list, sum}
 use Rattle.statement.specs.Input.{Matrix, WellFormed, pattern}
@@ -8,11 +8,10 @@ use Rattle.statement.specs.Postorder as postorder
 use Rattle.statement.specs.Shape.{supernodes}
 use Rattle.statement.specs.Supernodes.{updates, update_starts}
 use Rattle.statement.specs.Answers.{test, or_else}
-use Rattle.laws.specs.Answered.{answered}
 use Rattle.statement.specs.Areas.{short, held}
 use Rattle.statement.specs.Calls.{analysis, factor_needs, factor_later}
 use Rattle.statement.specs.declared.Answer.{Answer}
-use Rattle.statement.specs.declared.Answer.TheVariants.{Accepted, WrongStructure}
+use Rattle.statement.specs.declared.Answer.TheVariants.{WrongStructure}
 use Rattle.statement.specs.declared.Room.{Room}
 use Rattle.laws.specs.Numbered.{shape_for}
 use Rattle.laws.proofs.Postorder.{pos}
@@ -46,17 +45,6 @@ pub record Laid (M : Matrix) (cap : ℕ) (r : Room) (x : Findings) (permutation 
   pub five : tasks ≡ list (pos (parent (pattern M) M.n) M.n) M.n ++ ((shape_for M).parents ++ rest)
   pub nine_holds : nine ≡ held r.rows 0 (shape_for M).rows
   pub laying : ToLay M.n x.supernodes M.starts M.rows firsts starts nine words r.updates
-
--- where it is refused there are no supernodes, so that no updates are laid
-pub record Surveyed (M : Matrix) (cap : ℕ) (r : Room) (x : Findings) (permutation firsts starts groups tasks words nine : List ℕ) : Type 0 where
-  pub ans : x.answer ≡ answered (structure_fault M cap r)
-  pub go : x.answer ≡ Accepted → Laid M cap r x permutation firsts starts groups tasks words nine
-  pub idle : x.answer ≢ Accepted → x.supernodes ≡ 0
-
--- the same once the updates are laid: the words are not what they were
-pub record Found (M : Matrix) (cap : ℕ) (r : Room) (x : Findings) (permutation firsts starts groups tasks nine : List ℕ) : Type 0 where
-  pub words : List ℕ
-  pub surveyed : Surveyed M cap r x permutation firsts starts groups tasks words nine
 
 -- how long the areas but the updates are, and that areas 1 to 6 are zero; what the words and area 9 hold is not said
 pub record Blank (r : Room) (permutation firsts starts groups tasks top words nine : List ℕ) : Type 0 where

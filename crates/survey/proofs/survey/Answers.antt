@@ -1,226 +1,128 @@
 -- `survey::survey` meets its contract: the tests before the structure, then the structure. Assumes nothing.
-use lib.ListN.{length}
-use Prim.Native.Nat.{◌≤◌}
+use lib.ListN.{length, take, drop}
+use Prim.Native.Nat.{ℕ, ◌-◌, ◌≤◌}
+use mathlib.Core.List.{List}
 use native.Mathlib.Omega.{arith}
-use mathlib.Core.Path.{refl, sym, ap, ◌∙◌}
-use Rattle.laws.specs.Answered.{answered}
-use Rattle.statement.specs.Input.{matrix}
+use mathlib.Core.Path.{◌≡◌, refl, sym, ◌∙◌}
+use Rattle.statement.specs.Lists.{list}
+use Rattle.statement.specs.Input.{stored, pattern}
+use Rattle.statement.specs.Fill.{parent, count}
 use Rattle.updates.specs.Layout.{places_at, owners_at}
 use Rattle.areas.proofs.Tail.{tail_length}
+use Rattle.laws.proofs.Passed.{exit_is}
+use Rattle.views.specs.Shown.{matrix_of}
+use Rattle.views.proofs.Carried.{carried, carried_back}
+use Rattle.analysis.specs.Phases.{Enough, Analysed, later_needs}
+use Rattle.statement.specs.Areas.{short}
+use mathlib.Core.Option.{some}
 use Rattle.analysis.proofs.Linked.{few_in}
 use Rattle.survey.proofs.Zeros.{zeros_length}
 use Rattle.survey.proofs.Laying.{owned, owned_length, owners_long, placed_length, places_in, owners_stay}
-use Rattle.survey.proofs.Surveying.{past_later, accepted_form, stopped, at_measure, at_later, words_long, parents_there, counts_there, enough, groups_long, laid, rows_there, zeros_behind}
+use Rattle.survey.proofs.Surveying.{at_measure, at_later, words_long, parents_there, counts_there, enough, groups_long, laid, rows_there, zeros_behind}
 use Rattle.survey.proofs.survey.Goals as goal
 
-pub measure-t-requires : goal.measure-t-requires
-measure-t-requires c =
-    let pre' = c.requires in
-    (zeros_length 0 pre'.four, zeros_length 0 pre'.five, zeros_length 0 pre'.six)
+pub measure-requires : goal.measure-requires
+measure-requires c = let q = c.requires in (zeros_length 0 q.four, zeros_length 0 q.five, zeros_length 0 q.six)
 
-pub returns-in_default : goal.returns-in_default
-returns-in_default c =
-    let args' = c.args in
-    let measure' = c.measure-t in
-    let refused' = c.refused in
-    let match' = c.in_default in
-    let M = matrix args'.n args'.input_starts.now args'.input_rows.now args'.input_values.now in
-    let e = measure'.ensures.ans in
-    stopped M args'.cap args'.room _ _ refused'.ensures (λ q. match'.not-Accepted q) (e ∙ at_measure M _ _ (λ q. match'.not-Accepted (e ∙ q)))
+pub returns-in_err-found-clause-refused : goal.returns-in_err-found-clause-refused
+returns-in_err-found-clause-refused c = rw (exit_is c.from_residual.ensures.1) (at_measure _ _ _ c.in_err-found.ensures.refused)
 
 pub overflow_mul-owners : goal.overflow_mul-owners
-overflow_mul-owners c =
-    let measure' = c.measure-t in
-    let enum-told' = c.in-Accepted in
-    omega (arith, (measure'.ensures.go enum-told'.is).well.small)
+overflow_mul-owners c = omega (arith, c.in_ok-found.ensures.passed.1.well.small)
 
 pub overflow_add-owners : goal.overflow_add-owners
-overflow_add-owners c =
-    let measure' = c.measure-t in
-    let enum-told' = c.in-Accepted in
-    omega (arith, (measure'.ensures.go enum-told'.is).well.small)
+overflow_add-owners c = omega (arith, c.in_ok-found.ensures.passed.1.well.small)
 
 pub offset_bounds-words-owners : goal.offset_bounds-words-owners
-offset_bounds-words-owners c =
-    let measure' = c.measure-t in
-    let enum-told' = c.in-Accepted in
-    omega (arith, (measure'.ensures.go enum-told'.is).well.small)
+offset_bounds-words-owners c = omega (arith, c.in_ok-found.ensures.passed.1.well.small)
 
 pub slice_bounds-build-count : goal.slice_bounds-build-count
-slice_bounds-build-count c =
-    let args' = c.args in
-    let measure' = c.measure-t in
-    let enum-told' = c.in-Accepted in
-    let pre' = c.requires in
-    let M = matrix args'.n args'.input_starts.now args'.input_rows.now args'.input_values.now in
-    let z = measure'.ensures.go enum-told'.is in
-    omega (arith, words_long M args'.cap args'.room pre' _ _ _ _ z)
+slice_bounds-build-count c = omega (arith, words_long (matrix_of c.args.matrix.now) c.args.cap c.args.room c.requires _ _ _ _ _ c.in_ok-found.ensures.passed.1)
 
 pub slice_bounds-build-start : goal.slice_bounds-build-start
-slice_bounds-build-start c =
-    let args' = c.args in
-    let measure' = c.measure-t in
-    let enum-told' = c.in-Accepted in
-    let pre' = c.requires in
-    let M = matrix args'.n args'.input_starts.now args'.input_rows.now args'.input_values.now in
-    let z = measure'.ensures.go enum-told'.is in
-    omega (arith, words_long M args'.cap args'.room pre' _ _ _ _ z)
+slice_bounds-build-start c = omega (arith, words_long (matrix_of c.args.matrix.now) c.args.cap c.args.room c.requires _ _ _ _ _ c.in_ok-found.ensures.passed.1)
 
-pub build-c-requires : goal.build-c-requires
-build-c-requires c =
-    let args' = c.args in
-    let measure' = c.measure-t in
-    let enum-told' = c.in-Accepted in
-    let pre' = c.requires in
-    let M = matrix args'.n args'.input_starts.now args'.input_rows.now args'.input_values.now in
-    let z = measure'.ensures.go enum-told'.is in record { columns = (z.well.columns, z.well.small); enough = enough M args'.cap args'.room pre' _ _ _ _ z (omega (arith, measure'.auto)) (omega (arith, measure'.auto)) (omega (arith, measure'.auto)) _ (omega (arith, tail_length (owners_at args'.n) args'.words.now (omega (arith, words_long M args'.cap args'.room pre' _ _ _ _ z)), words_long M args'.cap args'.room pre' _ _ _ _ z)); top_value = (parents_there M args'.cap args'.room pre' _ _ _ _ z, counts_there M args'.cap args'.room pre' _ _ _ _ z); rows_value = sym pre'.nine_long }
+pub build-requires : goal.build-requires
+build-requires c =
+    let M = matrix_of c.args.matrix.now in
+    let e = c.in_ok-found.ensures.passed in
+    let z = e.1 in
+    let q = c.requires in
+    let long = words_long M c.args.cap c.args.room q _ _ _ _ _ z in
+    let owners = take (length c.args.words.now - owners_at c.args.matrix.now.n) (drop (owners_at c.args.matrix.now.n) c.args.words.now) in
+    let k : c.args.matrix.now.n ≤ length owners = omega (arith, tail_length (owners_at c.args.matrix.now.n) c.args.words.now (omega (arith, long)), long) in
+    record {
+      small = omega (arith, e.0.n, z.well.small);
+      enough = carried_back e.0 (λ n s r. Enough n c.args.permutation.now c.args.firsts.now c.args.starts.now c.measure.new.groups c.measure.new.tasks c.measure.new.top owners)
+          (enough M c.args.cap c.args.room q _ _ _ _ _ z (omega (arith, c.measure.auto)) (omega (arith, c.measure.auto)) (omega (arith, c.measure.auto)) owners k);
+      top_value = carried_back e.0 (λ n s r. (take n c.measure.new.top ≡ list (parent (stored s r) n) n) × (take n c.measure.new.groups ≡ list (count (stored s r) n) n))
+          (parents_there M c.args.cap c.args.room q _ _ _ _ _ z, counts_there M c.args.cap c.args.room q _ _ _ _ _ z);
+      rows_value = sym q.nine_long;
+    }
 
-pub shape_of-groups-in_default-b : goal.shape_of-groups-in_default-b
-shape_of-groups-in_default-b c =
-    let build' = c.build-c in
-    let measure' = c.measure-t in
-    omega (arith, build'.auto, measure'.auto)
-
-pub shape_of-tasks-in_default-b : goal.shape_of-tasks-in_default-b
-shape_of-tasks-in_default-b c =
-    let build' = c.build-c in
-    let measure' = c.measure-t in
-    omega (arith, build'.auto, measure'.auto)
-
-pub shape_of-top-in_default-b : goal.shape_of-top-in_default-b
-shape_of-top-in_default-b c =
-    let build' = c.build-c in
-    let measure' = c.measure-t in
-    omega (arith, build'.auto, measure'.auto)
-
-pub returns-in_default-b : goal.returns-in_default-b
-returns-in_default-b c =
-    let args' = c.args in
-    let measure' = c.measure-t in
-    let enum-told' = c.in-Accepted in
-    let build' = c.build-c in
-    let refused2' = c.refused-in_default-b in
-    let match2' = c.in_default-b in
-    let M = matrix args'.n args'.input_starts.now args'.input_rows.now args'.input_values.now in
-    let z = measure'.ensures.go enum-told'.is in
-    let e = build'.ensures.answers in
-    stopped M args'.cap args'.room _ _ refused2'.ensures (λ q. match2'.not-Accepted q) (e ∙ at_later M _ _ z.calm _ z.entries (λ q. match2'.not-Accepted (e ∙ q)))
-
-pub overflow_add-n : goal.overflow_add-n
-overflow_add-n c =
-    let measure' = c.measure-t in
-    let enum-told' = c.in-Accepted in
-    omega (arith, (measure'.ensures.go enum-told'.is).well.small)
-
-pub offset_bounds-words-n : goal.offset_bounds-words-n
-offset_bounds-words-n c =
-    let measure' = c.measure-t in
-    let enum-told' = c.in-Accepted in
-    omega (arith, (measure'.ensures.go enum-told'.is).well.small)
+pub returns-in_err-counts-clause-refused : goal.returns-in_err-counts-clause-refused
+returns-in_err-counts-clause-refused c =
+    let M = matrix_of c.args.matrix.now in
+    let e = c.in_ok-found.ensures.passed in
+    rw (exit_is c.from_residual-in_err-counts.ensures.1)
+    (at_later M c.args.cap c.args.room e.1.calm _ e.1.entries (carried e.0 (λ n s r. short (later_needs (stored s r) n c.in_ok-found.found.entries c.args.room) ≡ some c.in_err-counts.field-0.0) c.in_err-counts.ensures.refused))
 
 pub slice_bounds-copy_part-count : goal.slice_bounds-copy_part-count
 slice_bounds-copy_part-count c =
-    let args' = c.args in
-    let measure' = c.measure-t in
-    let enum-told' = c.in-Accepted in
-    let pre' = c.requires in
-    let build' = c.build-c in
-    let M = matrix args'.n args'.input_starts.now args'.input_rows.now args'.input_values.now in
-    let z = measure'.ensures.go enum-told'.is in
-    omega (arith, words_long M args'.cap args'.room pre' _ _ _ _ z, owned_length args'.n args'.words.now build'.new.words (omega (arith, words_long M args'.cap args'.room pre' _ _ _ _ z)) build'.auto.words)
+    let M = matrix_of c.args.matrix.now in
+    let e = c.in_ok-found.ensures.passed in
+    let z = e.1 in
+    let q = c.requires in
+    let w = c.args.words.now in
+    let long = words_long M c.args.cap c.args.room q _ _ _ _ _ z in
+    omega (arith, long, owned_length M.n w c.build.new.words (omega (arith, long)) c.build.auto.words)
 
 pub slice_bounds-copy_part-start : goal.slice_bounds-copy_part-start
 slice_bounds-copy_part-start c =
-    let args' = c.args in
-    let measure' = c.measure-t in
-    let enum-told' = c.in-Accepted in
-    let pre' = c.requires in
-    let build' = c.build-c in
-    let M = matrix args'.n args'.input_starts.now args'.input_rows.now args'.input_values.now in
-    let z = measure'.ensures.go enum-told'.is in
-    omega (arith, words_long M args'.cap args'.room pre' _ _ _ _ z, owned_length args'.n args'.words.now build'.new.words (omega (arith, words_long M args'.cap args'.room pre' _ _ _ _ z)) build'.auto.words)
+    let M = matrix_of c.args.matrix.now in
+    let e = c.in_ok-found.ensures.passed in
+    let z = e.1 in
+    let q = c.requires in
+    let w = c.args.words.now in
+    let long = words_long M c.args.cap c.args.room q _ _ _ _ _ z in
+    omega (arith, long, owned_length M.n w c.build.new.words (omega (arith, long)) c.build.auto.words)
 
 pub copy_part-requires : goal.copy_part-requires
 copy_part-requires c =
-    let args' = c.args in
-    let measure' = c.measure-t in
-    let enum-told' = c.in-Accepted in
-    let enum-told2' = c.in-Accepted-b in
-    let build' = c.build-c in
-    let pre' = c.requires in
-    let M = matrix args'.n args'.input_starts.now args'.input_rows.now args'.input_values.now in
-    let z = measure'.ensures.go enum-told'.is in
-    let b = accepted_form enum-told2'.is build'.ensures in
-    let few = few_in args'.n args'.input_starts.now args'.input_rows.now z.well.columns z.well.small (b.numbered refl) in
-    let long = words_long M args'.cap args'.room pre' _ _ _ _ z in
-    let w = args'.words.now in
-    let k = owned_length args'.n w build'.new.words (omega (arith, long)) build'.auto.words in
-    (omega (arith, few, groups_long M args'.cap args'.room pre' _ _ _ _ z, build'.auto.groups, measure'.auto), omega (arith, few, long, k, tail_length (places_at args'.n) (owned args'.n w build'.new.words (omega (arith, long)) build'.auto.words) (omega (arith, k, long))))
+    let M = matrix_of c.args.matrix.now in
+    let e = c.in_ok-found.ensures.passed in
+    let z = e.1 in
+    let q = c.requires in
+    let w = c.args.words.now in
+    let long = words_long M c.args.cap c.args.room q _ _ _ _ _ z in
+    let b = carried e.0 (λ n s r. Analysed (stored s r) n c.in_ok-found.found.entries c.args.room c.in_ok-counts.counts.supernodes c.in_ok-counts.counts.rows c.in_ok-counts.counts.updates
+        c.args.permutation.now c.args.firsts.now c.args.starts.now c.measure.new.groups c.measure.new.tasks c.args.rows.now
+        c.build.new.permutation c.build.new.firsts c.build.new.starts c.build.new.groups c.build.new.tasks c.build.new.words c.build.new.rows) c.in_ok-counts.ensures.passed in
+    let few = few_in M.n M.starts M.rows z.well.columns z.well.small b.numbered in
+    let k = owned_length M.n w c.build.new.words (omega (arith, long)) c.build.auto.words in
+    (omega (arith, few, groups_long M c.args.cap c.args.room q _ _ _ _ _ z, c.build.auto.groups, c.measure.auto), omega (arith, few, long, k, tail_length (places_at M.n) (owned M.n w c.build.new.words (omega (arith, long)) c.build.auto.words) (omega (arith, k, long))))
 
 pub clear_behind-requires : goal.clear_behind-requires
-clear_behind-requires c =
-    let enum-told2' = c.in-Accepted-b in
-    let build' = c.build-c in
-    let b = accepted_form enum-told2'.is build'.ensures in
-    rows_there b
-
-pub shape_of-groups : goal.shape_of-groups
-shape_of-groups c =
-    let build' = c.build-c in
-    let measure' = c.measure-t in
-    omega (arith, build'.auto, measure'.auto)
-
-pub shape_of-tasks : goal.shape_of-tasks
-shape_of-tasks c =
-    let build' = c.build-c in
-    let measure' = c.measure-t in
-    omega (arith, build'.auto, measure'.auto)
-
-pub shape_of-top : goal.shape_of-top
-shape_of-top c =
-    let build' = c.build-c in
-    let measure' = c.measure-t in
-    omega (arith, build'.auto, measure'.auto)
-
-pub shape_of-words : goal.shape_of-words
-shape_of-words c =
-    let args' = c.args in
-    let measure' = c.measure-t in
-    let enum-told' = c.in-Accepted in
-    let enum-told2' = c.in-Accepted-b in
-    let build' = c.build-c in
-    let pre' = c.requires in
-    let copy-part' = c.copy_part in
-    let M = matrix args'.n args'.input_starts.now args'.input_rows.now args'.input_values.now in
-    let z = measure'.ensures.go enum-told'.is in
-    let b = accepted_form enum-told2'.is build'.ensures in
-    let few = few_in args'.n args'.input_starts.now args'.input_rows.now z.well.columns z.well.small (b.numbered refl) in
-    let long = words_long M args'.cap args'.room pre' _ _ _ _ z in
-    let w = args'.words.now in
-    placed_length args'.n w build'.new.words (omega (arith, long)) build'.auto.words build'.result.supernodes build'.new.groups copy-part'.new.to few (omega (arith, few, groups_long M args'.cap args'.room pre' _ _ _ _ z, build'.auto.groups, measure'.auto)) copy-part'.ensures copy-part'.auto.to
-
-pub shape_of-rows : goal.shape_of-rows
-shape_of-rows c =
-    let clear-behind' = c.clear_behind in
-    let build' = c.build-c in
-    clear-behind'.auto.s ∙ build'.auto.rows
+clear_behind-requires c = rows_there c.in_ok-counts.ensures.passed
 
 pub returns : goal.returns
-unfolding answered
 returns c =
-    let args' = c.args in
-    let measure' = c.measure-t in
-    let enum-told' = c.in-Accepted in
-    let enum-told2' = c.in-Accepted-b in
-    let build' = c.build-c in
-    let pre' = c.requires in
-    let clear-behind' = c.clear_behind in
-    let copy-part' = c.copy_part in
-    let M = matrix args'.n args'.input_starts.now args'.input_rows.now args'.input_values.now in
-    let z = measure'.ensures.go enum-told'.is in
-    let b = accepted_form enum-told2'.is build'.ensures in
-    let few = few_in args'.n args'.input_starts.now args'.input_rows.now z.well.columns z.well.small (b.numbered refl) in
-    let long = words_long M args'.cap args'.room pre' _ _ _ _ z in
-    let w = args'.words.now in
-    let many : build'.result.supernodes ≤ length build'.new.groups = omega (arith, few, groups_long M args'.cap args'.room pre' _ _ _ _ z, build'.auto.groups, measure'.auto) in
-    record { ans = ap answered (sym (past_later M args'.cap args'.room z.calm _ z.entries z.well (sym b.answers))); go = λ q. laid M args'.cap args'.room pre' _ _ _ _ z (omega (arith, measure'.auto)) (omega (arith, measure'.auto)) (omega (arith, measure'.auto)) _ _ (zeros_behind b (build'.auto.rows ∙ pre'.nine_long) clear-behind'.ensures) refl refl refl _ _ (owners_long args'.n w build'.new.words (omega (arith, long)) build'.auto.words) (owners_stay args'.n w build'.new.words (omega (arith, long)) build'.auto.words build'.result.supernodes build'.new.groups copy-part'.new.to few many copy-part'.ensures) (places_in args'.n w build'.new.words (omega (arith, long)) build'.auto.words build'.result.supernodes build'.new.groups copy-part'.new.to few many copy-part'.ensures) (placed_length args'.n w build'.new.words (omega (arith, long)) build'.auto.words build'.result.supernodes build'.new.groups copy-part'.new.to few many copy-part'.ensures copy-part'.auto.to); idle = λ ne. absurd (ne refl) }
+    let M = matrix_of c.args.matrix.now in
+    let e = c.in_ok-found.ensures.passed in
+    let z = e.1 in
+    let q = c.requires in
+    let w = c.args.words.now in
+    let long = words_long M c.args.cap c.args.room q _ _ _ _ _ z in
+    let b = carried e.0 (λ n s r. Analysed (stored s r) n c.in_ok-found.found.entries c.args.room c.in_ok-counts.counts.supernodes c.in_ok-counts.counts.rows c.in_ok-counts.counts.updates
+        c.args.permutation.now c.args.firsts.now c.args.starts.now c.measure.new.groups c.measure.new.tasks c.args.rows.now
+        c.build.new.permutation c.build.new.firsts c.build.new.starts c.build.new.groups c.build.new.tasks c.build.new.words c.build.new.rows) c.in_ok-counts.ensures.passed in
+    let few = few_in M.n M.starts M.rows z.well.columns z.well.small b.numbered in
+    let many : c.in_ok-counts.counts.supernodes ≤ length c.build.new.groups = omega (arith, few, groups_long M c.args.cap c.args.room q _ _ _ _ _ z, c.build.auto.groups, c.measure.auto) in
+    record {
+      passed = laid M c.args.cap c.args.room q _ _ _ _ _ z (omega (arith, c.measure.auto)) (omega (arith, c.measure.auto)) (omega (arith, c.measure.auto)) _ _ (zeros_behind b (c.build.auto.rows ∙ q.nine_long) c.clear_behind.ensures) refl refl refl _ _
+          (owners_long M.n w c.build.new.words (omega (arith, long)) c.build.auto.words)
+          (owners_stay M.n w c.build.new.words (omega (arith, long)) c.build.auto.words c.in_ok-counts.counts.supernodes c.build.new.groups c.copy_part.new.to few many c.copy_part.ensures)
+          (places_in M.n w c.build.new.words (omega (arith, long)) c.build.auto.words c.in_ok-counts.counts.supernodes c.build.new.groups c.copy_part.new.to few many c.copy_part.ensures)
+          (placed_length M.n w c.build.new.words (omega (arith, long)) c.build.auto.words c.in_ok-counts.counts.supernodes c.build.new.groups c.copy_part.new.to few many c.copy_part.ensures c.copy_part.auto.to);
+      refused = tt;
+    }
