@@ -43,7 +43,8 @@ pub fn row_starts(supernodes: &Supernodes<'_>, counts: &[usize], to: &mut [usize
     }
 }
 
-// The supernode of column p; past the columns, the number of supernodes. As short as one that postorder's `moved` could share.
+// The supernode of column p; past the columns, the number of supernodes.
+// postorder's `moved` is this with n for ns; neither crate stands on the other, and a shared one would be no shorter
 fn owner_or(n: usize, ns: usize, owners: &[usize], p: usize) -> usize
     requires { (p ≤ n) × (n ≤ length owners.now) }
     ensures { result ≡ cond (eqb p n) ns (get_or owners.now p 0) }
