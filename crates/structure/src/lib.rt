@@ -44,6 +44,7 @@ pub fn row_starts(supernodes: &Supernodes<'_>, counts: &[usize], to: &mut [usize
 }
 
 // The supernode of column p; past the columns, the number of supernodes.
+// postorder's `moved` is this with n for ns; neither crate stands on the other, and a shared one would be no shorter
 fn owner_or(n: usize, ns: usize, owners: &[usize], p: usize) -> usize
     requires { (p ≤ n) × (n ≤ length owners.now) }
     ensures { result ≡ cond (eqb p n) ns (get_or owners.now p 0) }
@@ -105,6 +106,7 @@ fn climb(
     ensures beyond { Beyond (row_start (pattern numbering.now.matrix) numbering.now.matrix.n (nodes (pattern numbering.now.matrix) numbering.now.matrix.n)) to.old to.new }
 {
     let mut at = k;
+    // a climb, and no count: each step goes to the parent
     while marks[at] != r {
         append(r, at, marks, next, to);
         at = numbering.parents[at];

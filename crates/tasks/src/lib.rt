@@ -113,6 +113,7 @@ fn climb(tables: &Tables<'_>, s: usize) -> Option<usize>
 {
     let mut end = None;
     let mut r = s;
+    // a climb, and no count: each step goes to the parent
     while fits(tables, s, r) {
         end = Some(r + 1);
         r = tables.parents[r];
@@ -135,6 +136,7 @@ fn cut(tables: &Tables<'_>, tasks: &mut [usize], top: &mut [usize]) -> Cuts
     let mut t = 0;
     let mut o = 0;
     let mut s = 0;
+    // no count: a step takes a whole subtree
     while s < tables.number {
         match climb(tables, s) {
             Some(end) => {

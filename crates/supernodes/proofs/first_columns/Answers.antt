@@ -2,7 +2,6 @@ use Prim.Native.Nat.{◌+◌, ◌≤◌}
 use Rattle.areas.proofs.Front.{front_start, front_more, front_over}
 use Rattle.supernodes.proofs.Nodes.{Listing, listing_start, listing_take, listing_skip, listing_over, listed, listed_one}
 use Rattle.supernodes.specs.Found.{begins_in}
-use lib.ListN.{length-set}
 use mathlib.Core.Path.{refl, sym, ◌∙◌}
 use native.Mathlib.Omega.{arith}
 use Rattle.supernodes.proofs.first_columns.Goals.{then-begins, else-begins}
@@ -10,9 +9,6 @@ use Rattle.supernodes.proofs.first_columns.Goals as goal
 
 pub loop-j-init : goal.loop-j-init
 loop-j-init c = let q = c.requires.n_in_bounds in (listing_start _ _ _ q.0, front_start _ _ _ q.1)
-
-pub begins-requires : goal.begins-requires
-begins-requires c = let q = c.requires in record { j_lt_n = c.loop-j-test.true; parents_len = q.parents_len; kids_value = q.kids_value }
 
 pub overflow_sub-owner : goal.overflow_sub-owner
 unfolding begins_in
@@ -31,9 +27,6 @@ loop-j-preserved c =
       | then-begins w ↦ rw (w.first-is, w.m-is) (listing_take c.loop-j.invariant.0 c.loop-j-test.true (sym w.if-begins.true ∙ c.begins.ensures))
       | else-begins w ↦ rw (w.first-is, w.m-is) (listing_skip c.loop-j.invariant.0 c.loop-j-test.true (sym w.if-begins.false ∙ c.begins.ensures))
     ] in (next, front_more c.loop-j.invariant.1 c.loop-j-test.true (listed _ (next)))
-
-pub shape_of-first : goal.shape_of-first
-shape_of-first c = simp length-set (omega arith)
 
 pub returns : goal.returns
 returns c = let o = listing_over c.loop-j.invariant.0 c.loop-j-test.false in record { value = o.0; first_after = o.1; owner_after = front_over c.loop-j.invariant.1 c.loop-j-test.false }
