@@ -1,52 +1,31 @@
 // The first call: the structure of a matrix's factor, in lent areas.
 #![tactic(auto)]
 
-ghost use Rattle.std.specs.Prelude.{◌≡◌, [], length};
+ghost use Rattle.std.specs.Prelude.{[], length, IfOk, IfErr, ◌≡◌};
+ghost use Rattle.std.proofs.Math.Option.{some};
 ghost use Rattle.statement.specs.Input.{matrix};
 ghost use Rattle.statement.specs.Calls.{analyse, Analyses};
-ghost use Rattle.survey.specs.Laid.{Surveyed, Found};
-ghost use Rattle.survey.specs.Settles.{SettlesPlain};
+ghost use Rattle.views.specs.Shown.{matrix_of};
+ghost use Rattle.survey.specs.Laid.{structure_fault};
+ghost use Rattle.survey.specs.Settles.{Settles};
 ghost use Rattle.analyse.specs.Lent.{lent_structure};
 
 use answers::refused;
-use areas::clear_words;
+use areas::clear;
 use clearing::{clear_lists, clear_structure};
 use listing::lay;
 use statement::{Answer, Outcome, Record, Room, Stage, Update};
-use survey::{Findings, stale, supernodes, survey};
-use tasks::{Cuts, split};
-use update::clear;
+use survey::survey;
+use tasks::split;
+use views::{Matrix, Structure};
 
 // More room than any well-formed matrix needs: analyse has no areas 8 and 11, so that these are never short.
 const AMPLE: usize = 1099511627776;
 
-fn accepted(n: usize, s: Findings, c: Cuts) -> Outcome
-    ensures { result ≡ record { answer = Answer.Accepted; «record» = record { state = Stage.Analysed; n = n; supernodes = s.supernodes; rows = s.rows; updates = s.updates; tasks = c.tasks; top = c.top; entries = s.entries; work = s.work } } }
-{
-    Outcome {
-        answer: Answer::Accepted,
-        record: Record {
-            state: Stage::Analysed,
-            n,
-            supernodes: s.supernodes,
-            rows: s.rows,
-            updates: s.updates,
-            tasks: c.tasks,
-            top: c.top,
-            entries: s.entries,
-            work: s.work,
-        },
-    }
-}
-
-// Areas 1 to 6 are cleared, whatever they hold, and all are surveyed; area 10 is only so long.
-fn begin(
-    n: usize,
-    input_starts: &[usize],
-    input_rows: &[usize],
-    input_values: &[f64],
+// The structure, in the areas, and what was counted, or the first fault: of what a refusal leaves in the areas nothing is said.
+fn make(
+    matrix: &Matrix<'_>,
     cap: usize,
-    long: usize,
     permutation: &mut [usize],
     firsts: &mut [usize],
     starts: &mut [usize],
@@ -55,8 +34,10 @@ fn begin(
     top: &mut [usize],
     words: &mut [usize],
     rows: &mut [usize],
-) -> Findings
-    ensures { Surveyed (matrix n input_starts.now input_rows.now input_values.now) cap (lent_structure (length permutation.old) (length firsts.old) (length starts.old) (length groups.old) (length tasks.old) (length top.old) (length words.old) (length rows.old) long) result permutation.new firsts.new starts.new groups.new tasks.new words.new rows.new }
+    updates: &mut [Update],
+) -> Result<Record, Answer>
+    ensures made { IfOk result (λ x. Settles (analyse (matrix_of matrix.now) cap (lent_structure (length permutation.old) (length firsts.old) (length starts.old) (length groups.old) (length tasks.old) (length top.old) (length words.old) (length rows.old) (length updates.old))) (record { answer = Answer.Accepted; «record» = x }) permutation.new firsts.new starts.new groups.new tasks.new top.new words.new rows.new updates.new) }
+    ensures refused { IfErr result (λ a. structure_fault (matrix_of matrix.now) cap (lent_structure (length permutation.old) (length firsts.old) (length starts.old) (length groups.old) (length tasks.old) (length top.old) (length words.old) (length rows.old) (length updates.old)) ≡ some a) }
 {
     let room = Room {
         permutation: permutation.len(),
@@ -68,15 +49,12 @@ fn begin(
         words: words.len(),
         floats: AMPLE,
         rows: rows.len(),
-        updates: long,
+        updates: updates.len(),
         values: AMPLE,
     };
     clear_lists(permutation, firsts, starts, groups, tasks, top);
-    survey(
-        n,
-        input_starts,
-        input_rows,
-        input_values,
+    let found = survey(
+        matrix,
         cap,
         room,
         permutation,
@@ -87,39 +65,28 @@ fn begin(
         top,
         words,
         rows,
-    )
-}
-
-// Accepted: the tasks, and zeros in the scratch words. Refused: an empty record, and zeros in every area. The input, cap and
-// long only name the call.
-fn finish(
-    x: Findings,
-    n: usize,
-    input_starts: &[usize],
-    input_rows: &[usize],
-    input_values: &[f64],
-    cap: usize,
-    long: usize,
-    permutation: &mut [usize],
-    firsts: &mut [usize],
-    starts: &mut [usize],
-    groups: &mut [usize],
-    tasks: &mut [usize],
-    top: &mut [usize],
-    words: &mut [usize],
-    rows: &mut [usize],
-) -> Outcome
-    requires { Found (matrix n input_starts.now input_rows.now input_values.now) cap (lent_structure (length permutation.old) (length firsts.old) (length starts.old) (length groups.old) (length tasks.old) (length top.old) (length words.old) (length rows.old) long) x permutation.old firsts.old starts.old groups.old tasks.old rows.old }
-    ensures { SettlesPlain (analyse (matrix n input_starts.now input_rows.now input_values.now) cap (lent_structure (length permutation.old) (length firsts.old) (length starts.old) (length groups.old) (length tasks.old) (length top.old) (length words.old) (length rows.old) long)) result permutation.new firsts.new starts.new groups.new tasks.new top.new words.new rows.new }
-{
-    let a = x.answer;
-    let Answer::Accepted = a else {
-        clear_structure(permutation, firsts, starts, groups, tasks, top, words, rows);
-        return refused(a);
+    )?;
+    let n = matrix.n;
+    let structure = Structure {
+        n,
+        firsts,
+        starts,
+        rows,
     };
-    let c = split(n, x.supernodes, firsts, starts, tasks, top, words);
-    clear_words(words);
-    accepted(n, x, c)
+    lay(matrix, found.supernodes, &structure, words, updates);
+    let cuts = split(n, found.supernodes, firsts, starts, tasks, top, words);
+    words.fill(0);
+    Ok(Record {
+        state: Stage::Analysed,
+        n,
+        supernodes: found.supernodes,
+        rows: found.rows,
+        updates: found.updates,
+        tasks: cuts.tasks,
+        top: cuts.top,
+        entries: found.entries,
+        work: found.work,
+    })
 }
 
 // The structure of the factor of a matrix with n columns, if it has at most cap entries. Refused: an empty record, and
@@ -142,14 +109,15 @@ pub fn analyse(
 ) -> Outcome
     ensures { Analyses (matrix n input_starts.now input_rows.now input_values.now) cap (record { permutation = length permutation.entry.now; firsts = length firsts.old; starts = length starts.old; groups = length groups.old; tasks = length tasks.old; top = length top.old; words = length words.old; floats = 0; rows = length rows.old; updates = length updates.old; values = 0 }) (record { returned = result; areas = record { permutation = permutation.exit.now; firsts = firsts.new; starts = starts.new; groups = groups.new; tasks = tasks.new; top = top.new; words = words.new; floats = []; rows = rows.new; updates = updates.new; values = [] } }) }
 {
-    let long = updates.len();
-    let x = begin(
+    let matrix = Matrix {
         n,
-        input_starts,
-        input_rows,
-        input_values,
+        starts: input_starts,
+        rows: input_rows,
+        values: input_values,
+    };
+    match make(
+        &matrix,
         cap,
-        long,
         permutation,
         firsts,
         starts,
@@ -158,37 +126,16 @@ pub fn analyse(
         top,
         words,
         rows,
-    );
-    let ns = supernodes(x);
-    lay(
-        ns,
-        n,
-        input_starts,
-        input_rows,
-        firsts,
-        starts,
-        rows,
-        words,
         updates,
-    );
-    let r = finish(
-        x,
-        n,
-        input_starts,
-        input_rows,
-        input_values,
-        cap,
-        long,
-        permutation,
-        firsts,
-        starts,
-        groups,
-        tasks,
-        top,
-        words,
-        rows,
-    );
-    let k = stale(r, long);
-    clear(updates, k);
-    r
+    ) {
+        Ok(record) => Outcome {
+            answer: Answer::Accepted,
+            record,
+        },
+        Err(a) => {
+            clear_structure(permutation, firsts, starts, groups, tasks, top, words, rows);
+            clear(updates);
+            refused(a)
+        }
+    }
 }

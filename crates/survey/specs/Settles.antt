@@ -1,8 +1,6 @@
 -- What a call leaves, held to what the statement says of it. Definitions only.
-use Rattle.std.specs.Prelude.{◌≡◌, cond, List, ℕ, eqb}
-use Rattle.statement.specs.Answers.{number}
+use Rattle.std.specs.Prelude.{◌≡◌, List, ℕ}
 use Rattle.statement.specs.Calls.{Settled}
-use Rattle.statement.specs.declared.Answer.{Answer}
 use Rattle.statement.specs.declared.Outcome.{Outcome}
 use Rattle.statement.specs.declared.Update.{Update}
 
@@ -22,7 +20,3 @@ pub record SettlesPlain (said : Settled) (x : Outcome) (permutation firsts start
 pub record Settles (said : Settled) (x : Outcome) (permutation firsts starts groups tasks top words nine : List ℕ) (ten : List Update) : Type 0 where
   pub plain : SettlesPlain said x permutation firsts starts groups tasks top words nine
   pub ten_holds : ten ≡ said.areas.updates
-
--- how many of area 10's updates are cleared at the end: those of a refused call
-abbrev pub stale_of : Answer → ℕ → ℕ
-stale_of a long = cond (eqb (number a) 0) 0 long
