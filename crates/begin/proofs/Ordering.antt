@@ -1,6 +1,5 @@
 -- Number 8 from the structure's areas, and what stands in the words once it passes. Assumes nothing.
 use mathlib.Core.Path.{◌≡◌, refl, sym, ap, ◌∙◌}
-use mathlib.Core.Logic.{◌≢◌}
 use mathlib.Core.List.{List, ◌++◌}
 use mathlib.Core.Option.{Option, none, some}
 use Prim.Native.Nat.{ℕ, ◌+◌, ◌*◌, ◌-◌, ◌≤◌}
@@ -15,12 +14,12 @@ use Rattle.statement.specs.Fill.{parent}
 use Rattle.statement.specs.Shape.{supernodes}
 use Rattle.statement.specs.Supernodes.{shape_of}
 use Rattle.statement.specs.Run.{order_fault}
-use Rattle.statement.specs.Answers.{number}
-use Rattle.laws.specs.Answered.{answered}
+use Rattle.std.specs.Prelude.{Ok, Err}
+use Rattle.laws.specs.Answered.{passed}
+use Rattle.laws.proofs.Passed.{passed_none, passed_some}
 use Rattle.statement.specs.Calls.{analysis, order_of, stop_of, wrong_position}
 use Rattle.statement.specs.Demands.{Names}
 use Rattle.statement.specs.declared.Answer.{Answer}
-use Rattle.statement.specs.declared.Answer.TheVariants.{Accepted}
 use Rattle.statement.specs.declared.Order.{Order}
 use Rattle.statement.specs.declared.Order.TheVariants.{Listed}
 use Rattle.statement.specs.declared.Stop.{Stop}
@@ -36,12 +35,7 @@ use Rattle.order.proofs.Shaped.{shape_above, shape_of_lem}
 use Rattle.ready.specs.Known.{Known, Laid, Kept}
 use Rattle.ready.proofs.Wrote.{Wrote, wrote, wrote_part, wrote_above}
 use Rattle.ready.proofs.Laying.{fewer, room}
-use Rattle.begin.specs.Ordered.{order_test, Tested}
-
-answered_none : (f : Option ℕ) → answered (wrong_position f) ≡ Accepted → wrong_position f ≡ none
-unfolding wrong_position answered
-answered_none none e = refl
-answered_none (some p) e = absurd (omega (arith, ap number e))
+use Rattle.begin.specs.Ordered.{order_test, Ordered}
 
 no_position : (f : Option ℕ) → wrong_position f ≡ none → f ≡ none
 unfolding wrong_position
@@ -78,18 +72,15 @@ module _ (M : Matrix) {ns : ℕ} {permutation firsts starts tasks : List ℕ} (k
   unfolding order_test analysis
   ordered_by o l e legal = (order_exactly (shape_for M) (ok M k.well).up (order_of (shape_for M) o l) (stop_of (shape_for M) e)).0 (no_position _ legal)
 
-  module _ (o : Order) (l : List ℕ) (e : Stop) (a : Answer) (q : a ≡ answered (wrong_position (order_fault (shape_for M) (order_of (shape_for M) o l) (stop_of (shape_for M) e)))) where
-    said : a ≡ answered (order_test M o l e)
+  module _ (o : Order) (l : List ℕ) (e : Stop) where
+    pub refused_order : {a : Answer} → Err a ≡ passed (wrong_position (order_fault (shape_for M) (order_of (shape_for M) o l) (stop_of (shape_for M) e))) → order_test M o l e ≡ some a
     unfolding order_test analysis
-    said = q
+    refused_order q = passed_some _ q
 
-    pub refused_order : {words words' : List ℕ} {floats : List Float} → a ≢ Accepted → Tested M o l e ns a words words' floats
-    refused_order h = record { ans = said; go = λ z. absurd (h z) }
-
-    module _ (h : a ≡ Accepted) where
+    module _ {u : Unit {0}} (q : Ok u ≡ passed (wrong_position (order_fault (shape_for M) (order_of (shape_for M) o l) (stop_of (shape_for M) e)))) where
       legal : order_test M o l e ≡ none
       unfolding order_test analysis
-      legal = answered_none _ (sym q ∙ h)
+      legal = passed_none _ q
 
       ordered : Names (shape_for M) (order_of (shape_for M) o l) × (stop_of (shape_for M) e ≤ supernodes (shape_for M))
       ordered = ordered_by o l e legal
@@ -136,15 +127,12 @@ module _ (M : Matrix) {ns : ℕ} {permutation firsts starts tasks : List ℕ} (k
             lower = rw (after (starts_at M.n) (omega arith), after (rows_at M.n) (omega arith)) z.lower;
           }
 
-          pub prepared : Tested M o l e ns a w w₃ floats
-          prepared = record {
-            ans = said;
-            go = λ _. (
-              record {
-                legal = legal;
-                scratch = scratch;
-                names = λ p h. third.at p (omega (arith, part_long, et)) ∙ get_or-take t (order_of (shape_for M) o l) p 0 (omega (arith, et));
-              },
-              λ i b h. third.below i (omega arith) ∙ kept i b h ∙ wrote_above first i (omega (arith, lx)),
-            );
-          }
+          pub prepared : Ordered M o l e ns w₃ floats × Kept M.n w w₃
+          prepared = (
+            record {
+              legal = legal;
+              scratch = scratch;
+              names = λ p h. third.at p (omega (arith, part_long, et)) ∙ get_or-take t (order_of (shape_for M) o l) p 0 (omega (arith, et));
+            },
+            λ i b h. third.below i (omega arith) ∙ kept i b h ∙ wrote_above first i (omega (arith, lx)),
+          )

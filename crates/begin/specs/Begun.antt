@@ -1,11 +1,9 @@
 -- What stands in the areas where the run can start. Definitions only.
-use Rattle.std.specs.Prelude.{◌≡◌, ◌≢◌, List, ℕ, length, replicate, Float}
+use Rattle.std.specs.Prelude.{◌≡◌, List, ℕ, length, replicate, Float}
 use Rattle.statement.specs.Input.{Matrix, +0}
-use Rattle.statement.specs.Shape.{Shape, supernodes}
 use Rattle.statement.specs.Answers.{or_else}
-use Rattle.laws.specs.Answered.{answered}
-use Rattle.statement.specs.Calls.{stop_of}
-use Rattle.statement.specs.declared.Answer.TheVariants.{Accepted}
+use Rattle.std.proofs.Math.Option.{Option}
+use Rattle.statement.specs.declared.Answer.{Answer}
 use Rattle.statement.specs.declared.Order.{Order}
 use Rattle.statement.specs.declared.Room.{Room}
 use Rattle.statement.specs.declared.Stop.{Stop}
@@ -32,6 +30,10 @@ lent_all permutation firsts starts groups tasks top words floats rows updates va
 abbrev pub zero_floats : ℕ → List Float
 zero_floats m = replicate m +0
 
+-- 1, 2, 3, 4, 5, 6, 12, 8
+unfoldable pub begin_fault : Matrix → ℕ → Order → List ℕ → Stop → Room → Option Answer
+begin_fault M cap o l e r = or_else (structure_fault M cap r) (order_test M o l e)
+
 -- the structure, a legal order, and the run's scratch over values that are zero
 pub record Prepared (M : Matrix) (cap : ℕ) (o : Order) (l : List ℕ) (e : Stop) (r : Room) (x : Findings) (permutation firsts starts groups tasks words : List ℕ) (floats : List Float) (nine : List ℕ) (values : List Float) : Type 0 where
   pub laid : Laid M cap r x permutation firsts starts groups tasks words nine
@@ -39,14 +41,3 @@ pub record Prepared (M : Matrix) (cap : ℕ) (o : Order) (l : List ℕ) (e : Sto
   pub zero : values ≡ zero_floats r.values
   pub words_long : length words ≡ r.words
   pub floats_long : length floats ≡ r.floats
-
--- by the answer; where it is refused there are no supernodes, so that nothing is laid or run
-pub record Begun (M : Matrix) (cap : ℕ) (o : Order) (l : List ℕ) (e : Stop) (r : Room) (x : Findings) (permutation firsts starts groups tasks words : List ℕ) (floats : List Float) (nine : List ℕ) (values : List Float) : Type 0 where
-  pub ans : x.answer ≡ answered (or_else (structure_fault M cap r) (order_test M o l e))
-  pub go : x.answer ≡ Accepted → Prepared M cap o l e r x permutation firsts starts groups tasks words floats nine values
-  pub idle : x.answer ≢ Accepted → x.supernodes ≡ 0
-
--- how many supernodes are run
-pub record Steps (x : Findings) (e : Stop) (t : ℕ) : Type 0 where
-  pub none : x.answer ≢ Accepted → t ≡ 0
-  pub all : x.answer ≡ Accepted → (S : Shape) → supernodes S ≡ x.supernodes → t ≡ stop_of S e

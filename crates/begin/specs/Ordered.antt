@@ -3,15 +3,13 @@ use Rattle.std.specs.Prelude.{◌≡◌, List, ℕ, ◌+◌, ◌<◌, get_or, Fl
 use Rattle.std.proofs.Math.Option.{Option, none}
 use Rattle.statement.specs.Input.{Matrix}
 use Rattle.statement.specs.Run.{order_fault}
-use Rattle.laws.specs.Answered.{answered}
 use Rattle.statement.specs.Calls.{analysis, order_of, stop_of, wrong_position}
 use Rattle.statement.specs.declared.Answer.{Answer}
-use Rattle.statement.specs.declared.Answer.TheVariants.{Accepted}
 use Rattle.statement.specs.declared.Order.{Order}
 use Rattle.statement.specs.declared.Stop.{Stop}
 use Rattle.laws.specs.Numbered.{shape_for}
 use Rattle.updates.specs.Layout.{names_at}
-use Rattle.ready.specs.Known.{Laid, Kept}
+use Rattle.ready.specs.Known.{Laid}
 
 -- 8
 unfoldable pub order_test : Matrix → Order → List ℕ → Stop → Option Answer
@@ -22,8 +20,3 @@ pub record Ordered (M : Matrix) (o : Order) (l : List ℕ) (e : Stop) (ns : ℕ)
   pub legal : order_test M o l e ≡ none
   pub scratch : Laid M ns words floats
   pub names : (p : ℕ) → p < stop_of (shape_for M) e → get_or words (names_at M.n + p) 0 ≡ get_or (order_of (shape_for M) o l) p 0
-
--- by the answer, over the words before; what laying the updates reads is kept
-pub record Tested (M : Matrix) (o : Order) (l : List ℕ) (e : Stop) (ns : ℕ) (answer : Answer) (words words' : List ℕ) (floats : List Float) : Type 0 where
-  pub ans : answer ≡ answered (order_test M o l e)
-  pub go : answer ≡ Accepted → Ordered M o l e ns words' floats × Kept M.n words words'

@@ -1,72 +1,57 @@
 // From the input to where the run can start: the structure, number 8, and the run's scratch.
 #![tactic(auto)]
 
-ghost use Rattle.std.specs.Prelude.{◌≡◌, ◌+◌, ◌*◌, ◌≤◌, length, take, drop};
-ghost use Rattle.statement.specs.Input.{matrix};
-ghost use Rattle.ready.specs.Known.{Known};
-ghost use Rattle.begin.specs.Begun.{lent_all, Begun, Steps};
-ghost use Rattle.begin.specs.Ordered.{Tested};
+ghost use Rattle.std.specs.Prelude.{◌≡◌, ◌+◌, ◌*◌, ◌≤◌, length, OnOk, IfOk, IfErr};
+ghost use Rattle.std.proofs.Math.Option.{some};
+ghost use Rattle.views.specs.Shown.{matrix_of};
+ghost use Rattle.ready.specs.Known.{Known, Kept};
+ghost use Rattle.begin.specs.Begun.{lent_all, begin_fault, Prepared};
+ghost use Rattle.begin.specs.Ordered.{order_test, Ordered};
 
-use areas::clear_floats;
+use areas::clear;
 use clearing::clear_lists;
 use order::{names, order_fault, stop_at};
-use ready::ready;
+use ready::Analysed;
 use statement::{Answer, Order, Room, Stop};
-use survey::{Findings, refused, survey};
+use survey::{Findings, survey};
+use views::Matrix;
 
 // Number 8, and where it passes what the run reads: the scratch, and from 8n + 1 on the supernodes in the order of the run.
 fn prepare(
-    n: usize,
-    ns: usize,
-    input_starts: &[usize],
-    input_rows: &[usize],
-    input_values: &[f64],
+    found: &Analysed<'_>,
     order: Order,
     list: &[usize],
     stop: Stop,
-    permutation: &[usize],
-    firsts: &[usize],
-    starts: &[usize],
-    tasks: &[usize],
     top: &mut [usize],
     words: &mut [usize],
     floats: &mut [f64],
-) -> Answer
-    requires known { Known (matrix n input_starts.now input_rows.now input_values.now) ns permutation.now firsts.now starts.now tasks.now }
-    requires n_in_bounds { (n ≤ length top.old) × (24 * n + length input_rows.now + 24 ≤ length words.old) × (length input_rows.now + n ≤ length floats.old) }
-    ensures { Tested (matrix n input_starts.now input_rows.now input_values.now) order list.now stop ns result words.old words.new floats.new }
+) -> Result<(), Answer>
+    requires known { Known (matrix_of found.now.matrix) found.now.ns found.now.permutation.now found.now.firsts.now found.now.starts.now found.now.tasks.now }
+    requires n_in_bounds { (found.now.matrix.n ≤ length top.old) × (24 * found.now.matrix.n + length found.now.matrix.rows.now + 24 ≤ length words.old) × (length found.now.matrix.rows.now + found.now.matrix.n ≤ length floats.old) }
+    ensures ordered { OnOk result (Ordered (matrix_of found.now.matrix) order list.now stop found.now.ns words.new floats.new × Kept found.now.matrix.n words.old words.new) }
+    ensures refused { IfErr result (λ a. order_test (matrix_of found.now.matrix) order list.now stop ≡ some a) }
 {
+    let n = found.matrix.n;
     let m = n + 1;
-    let b = order_fault(ns, order, list, stop, &tasks[n..], &mut words[..m]);
-    let Answer::Accepted = b else {
-        return b;
-    };
-    ready(
-        n,
-        ns,
-        input_starts,
-        input_rows,
-        input_values,
-        permutation,
-        firsts,
-        starts,
-        tasks,
-        top,
-        words,
-        floats,
-    );
+    order_fault(
+        found.ns,
+        order,
+        list,
+        stop,
+        &found.tasks[n..],
+        &mut words[..m],
+    )?;
+    found.ready(top, words, floats);
     let at = 8 * n + 1;
-    names(order, list, stop_at(ns, stop), &mut words[at..]);
-    b
+    names(order, list, stop_at(found.ns, stop), &mut words[at..]);
+    Ok(())
 }
 
-// The structure, number 8, and what the run reads. Areas 1 to 6 and the values are cleared before; area 9 is written whole, and of the
-// scratch nothing is read that was not written here. long is area 10's length. Where it is refused, what it leaves in the areas is not said.
+// The structure, number 8, and what the run reads, or the first fault. Areas 1 to 6 and the values are cleared before; area 9 is written whole,
+// and of the scratch nothing is read that was not written here. long is area 10's length. Where it is refused, what it leaves in the areas is not
+// said.
 pub fn begin(
-    n: usize,
-    input_starts: &[usize],
-    input_rows: &[usize],
-    input_values: &[f64],
+    matrix: &Matrix<'_>,
     cap: usize,
     order: Order,
     list: &[usize],
@@ -82,8 +67,9 @@ pub fn begin(
     floats: &mut [f64],
     rows: &mut [usize],
     values: &mut [f64],
-) -> Findings
-    ensures { Begun (matrix n input_starts.now input_rows.now input_values.now) cap order list.now stop (lent_all (length permutation.old) (length firsts.old) (length starts.old) (length groups.old) (length tasks.old) (length top.old) (length words.old) (length floats.old) (length rows.old) long (length values.old)) result permutation.new firsts.new starts.new groups.new tasks.new words.new floats.new rows.new values.new }
+) -> Result<Findings, Answer>
+    ensures begun { IfOk result (λ x. Prepared (matrix_of matrix.now) cap order list.now stop (lent_all (length permutation.old) (length firsts.old) (length starts.old) (length groups.old) (length tasks.old) (length top.old) (length words.old) (length floats.old) (length rows.old) long (length values.old)) x permutation.new firsts.new starts.new groups.new tasks.new words.new floats.new rows.new values.new) }
+    ensures refused { IfErr result (λ a. begin_fault (matrix_of matrix.now) cap order list.now stop (lent_all (length permutation.old) (length firsts.old) (length starts.old) (length groups.old) (length tasks.old) (length top.old) (length words.old) (length floats.old) (length rows.old) long (length values.old)) ≡ some a) }
 {
     let room = Room {
         permutation: permutation.len(),
@@ -99,12 +85,9 @@ pub fn begin(
         values: values.len(),
     };
     clear_lists(permutation, firsts, starts, groups, tasks, top);
-    clear_floats(values);
+    clear(values);
     let x = survey(
-        n,
-        input_starts,
-        input_rows,
-        input_values,
+        matrix,
         cap,
         room,
         permutation,
@@ -115,48 +98,15 @@ pub fn begin(
         top,
         words,
         rows,
-    );
-    let a = x.answer;
-    let Answer::Accepted = a else {
-        return x;
-    };
-    let b = prepare(
-        n,
-        x.supernodes,
-        input_starts,
-        input_rows,
-        input_values,
-        order,
-        list,
-        stop,
+    )?;
+    let found = Analysed {
+        matrix: *matrix,
+        ns: x.supernodes,
         permutation,
         firsts,
         starts,
         tasks,
-        top,
-        words,
-        floats,
-    );
-    let Answer::Accepted = b else {
-        return refused(b);
     };
-    x
-}
-
-// How many supernodes are run: none where it is refused.
-pub fn steps(x: Findings, stop: Stop) -> usize
-    ensures { Steps x stop result }
-{
-    let a = x.answer;
-    let Answer::Accepted = a else {
-        return 0;
-    };
-    stop_at(x.supernodes, stop)
-}
-
-// How many values the factor has.
-pub fn entries(x: Findings) -> usize
-    ensures { result ≡ x.entries }
-{
-    x.entries
+    prepare(&found, order, list, stop, top, words, floats)?;
+    Ok(x)
 }
