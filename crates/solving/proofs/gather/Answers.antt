@@ -42,16 +42,6 @@ bounds-x-a c =
     let loop' = c.loop-a in
     omega (arith, loop'.invariant.len)
 
-pub overflow_add-a : goal.overflow_add-a
-overflow_add-a c =
-    let loop' = c.loop-a in
-    omega (arith, loop'.invariant.len)
-
-pub loop-a-smaller : goal.loop-a-smaller
-loop-a-smaller c =
-    let loop' = c.loop-a in
-    omega (arith, loop'.invariant.len)
-
 pub loop-a-preserved : goal.loop-a-preserved
 loop-a-preserved c =
     let loop' = c.loop-a in

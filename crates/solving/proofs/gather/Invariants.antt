@@ -7,6 +7,3 @@ use Rattle.solving.proofs.gather.Given as goal
 
 abbrev pub invariant-loop-a : goal.invariant-loop-a
 invariant-loop-a l = Front (λ a. get_or l.b (get_or l.permutation a 0) +0) (length l.initial.x) l.initial.x l.x l.a
-
-abbrev pub decreases-loop-a : goal.decreases-loop-a
-decreases-loop-a l = length l.initial.x - l.a

@@ -7,6 +7,3 @@ use Rattle.solving.proofs.reduce.Given as goal
 
 abbrev pub invariant-loop-i : goal.invariant-loop-i
 invariant-loop-i l = (l.i ≤ length l.rows) × (less_above l.z l.x l.rows l.values ≡ less_above l.t l.x (drop l.i l.rows) (drop l.i l.values))
-
-abbrev pub decreases-loop-i : goal.decreases-loop-i
-decreases-loop-i l = length l.rows - l.i

@@ -8,6 +8,3 @@ use Rattle.solving.proofs.reduce_run.Given as goal
 
 abbrev pub invariant-loop-i : goal.invariant-loop-i
 invariant-loop-i l = (l.i ≤ length l.values) × (less_above l.z l.x (rising l.at (length l.values)) l.values ≡ less_above l.t l.x (drop l.i (rising l.at (length l.values))) (drop l.i l.values))
-
-abbrev pub decreases-loop-i : goal.decreases-loop-i
-decreases-loop-i l = length l.values - l.i

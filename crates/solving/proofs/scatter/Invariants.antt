@@ -6,6 +6,3 @@ use Rattle.solving.proofs.scatter.Given as goal
 
 abbrev pub invariant-loop-q : goal.invariant-loop-q
 invariant-loop-q l = Back l.permutation l.x l.initial.b l.b l.q
-
-abbrev pub decreases-loop-q : goal.decreases-loop-q
-decreases-loop-q l = length l.x - l.q

@@ -7,6 +7,3 @@ use Rattle.solving.proofs.subtract.Given as goal
 
 abbrev pub invariant-loop-i : goal.invariant-loop-i
 invariant-loop-i l = (l.i ≤ length l.rows) × (length l.x ≡ length l.initial.x) × (less_below l.initial.x l.y l.rows l.values ≡ less_below l.x l.y (drop l.i l.rows) (drop l.i l.values))
-
-abbrev pub decreases-loop-i : goal.decreases-loop-i
-decreases-loop-i l = length l.rows - l.i
