@@ -1,5 +1,5 @@
 -- `solving::backward_supernode` meets its contract: its columns in turn. Assumes nothing.
-use mathlib.Core.Path.{◌≡◌, ◌∙◌}
+use mathlib.Core.Path.{◌≡◌}
 use Prim.Native.Nat.{◌-◌}
 use native.Mathlib.Omega.{arith}
 use Rattle.statement.specs.Shape.{offset}

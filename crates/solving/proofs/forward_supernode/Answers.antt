@@ -1,10 +1,6 @@
 -- `solving::forward_supernode` meets its contract: its columns in turn. Assumes nothing.
-use mathlib.Core.Path.{◌≡◌, ◌∙◌}
-use Prim.Native.Nat.{◌-◌}
 use native.Mathlib.Omega.{arith}
-use Rattle.statement.specs.Shape.{offset}
 use Rattle.laws.proofs.Walked.{whole}
-use Rattle.solving.specs.Shown.{shape_of}
 use Rattle.solving.proofs.Order.{stretch_in}
 use Rattle.solving.proofs.Walk.{next_at, block_of, forward_done}
 use Rattle.solving.proofs.forward_supernode.Goals as goal

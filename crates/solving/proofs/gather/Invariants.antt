@@ -1,5 +1,4 @@
 -- `solving::gather` meets its contract: x from the front. Assumes nothing.
-use Prim.Native.Nat.{◌-◌}
 use lib.ListN.{length, get_or}
 use Rattle.statement.specs.Input.{+0}
 use Rattle.areas.proofs.Front.{Front}

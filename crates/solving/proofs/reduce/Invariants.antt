@@ -1,6 +1,6 @@
 -- `solving::reduce` meets its contract: the rows that are left take t to the whole. Assumes nothing.
 use mathlib.Core.Path.{◌≡◌}
-use Prim.Native.Nat.{◌-◌, ◌≤◌}
+use Prim.Native.Nat.{◌≤◌}
 use lib.ListN.{length, drop}
 use Rattle.statement.specs.Solve.{less_above}
 use Rattle.solving.proofs.reduce.Given as goal

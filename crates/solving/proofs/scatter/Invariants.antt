@@ -1,6 +1,4 @@
 -- `solving::scatter` meets its contract: the unknowns before q are back. Assumes nothing.
-use Prim.Native.Nat.{◌-◌}
-use lib.ListN.{length}
 use Rattle.solving.proofs.Order.{Back}
 use Rattle.solving.proofs.scatter.Given as goal
 

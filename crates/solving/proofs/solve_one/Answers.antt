@@ -1,8 +1,6 @@
 -- `solving::solve_one` meets its contract: the four passes. Assumes nothing.
-use mathlib.Core.Path.{◌≡◌, sym, ◌∙◌}
+use mathlib.Core.Path.{sym, ◌∙◌}
 use native.Mathlib.Omega.{arith}
-use lib.ListN.{length}
-use Rattle.statement.specs.Solve.{permutes}
 use Rattle.laws.proofs.Permuted.{permuted}
 use Rattle.solving.proofs.Order.{passes}
 use Rattle.laws.proofs.Taken.{true_T}

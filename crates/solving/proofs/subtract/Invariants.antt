@@ -1,6 +1,6 @@
 -- `solving::subtract` meets its contract: the rows that are left take x to the whole. Assumes nothing.
 use mathlib.Core.Path.{◌≡◌}
-use Prim.Native.Nat.{◌-◌, ◌≤◌}
+use Prim.Native.Nat.{◌≤◌}
 use lib.ListN.{length, drop}
 use Rattle.statement.specs.Solve.{less_below}
 use Rattle.solving.proofs.subtract.Given as goal

@@ -1,6 +1,6 @@
 -- `solving::subtract_run` meets its contract: the places that are left take x to the whole. Assumes nothing.
 use mathlib.Core.Path.{◌≡◌}
-use Prim.Native.Nat.{◌-◌, ◌≤◌}
+use Prim.Native.Nat.{◌≤◌}
 use lib.ListN.{length, drop}
 use Rattle.statement.specs.Lists.{rising}
 use Rattle.statement.specs.Solve.{less_below}
