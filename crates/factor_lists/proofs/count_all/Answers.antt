@@ -32,12 +32,6 @@ overflow_add-words c =
     let v = get_or args'.p.now loop'.k 0 in
     omega (arith, loop'.invariant.2 v (pre'.by_index_2 loop'.k (omega arith)), count_to (λ a. eqb (get_or args'.p.now a 0) v) loop'.k)
 
-pub offset_bounds-words-v-in-loop-k : goal.offset_bounds-words-v-in-loop-k
-offset_bounds-words-v-in-loop-k c =
-    let pre' = c.requires in
-    let loop' = c.loop-k in
-    omega (arith, pre'.by_index_2 loop'.k (omega arith))
-
 pub bounds-words-v-in-loop-k : goal.bounds-words-v-in-loop-k
 bounds-words-v-in-loop-k c =
     let pre' = c.requires in

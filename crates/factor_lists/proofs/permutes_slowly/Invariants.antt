@@ -8,6 +8,3 @@ use Rattle.factor_lists.proofs.permutes_slowly.Given as goal
 
 abbrev pub invariant-loop-v : goal.invariant-loop-v
 invariant-loop-v l = Tested (λ k. eqb (tally (λ a. eqb (get_or l.p a 0) k) l.n) 1) l.n l.v
-
-abbrev pub decreases-loop-v : goal.decreases-loop-v
-decreases-loop-v l = l.n - l.v
