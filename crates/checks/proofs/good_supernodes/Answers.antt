@@ -16,28 +16,8 @@ overflow_sub-w c =
     let loop' = c.loop-k in
     omega (arith, (node _ (pre') loop'.k (omega arith)).right)
 
-pub offset_bounds-starts-k : goal.offset_bounds-starts-k
-offset_bounds-starts-k c =
-    let pre' = c.requires in
-    omega (arith, pre'.long)
-
-pub bounds-starts-k : goal.bounds-starts-k
-bounds-starts-k c =
-    let pre' = c.requires in
-    omega (arith, pre'.long)
-
-pub offset_bounds-starts-k-in-loop-k : goal.offset_bounds-starts-k-in-loop-k
-offset_bounds-starts-k-in-loop-k c =
-    let pre' = c.requires in
-    omega (arith, pre'.long)
-
-pub bounds-starts-k-in-loop-k : goal.bounds-starts-k-in-loop-k
-bounds-starts-k-in-loop-k c =
-    let pre' = c.requires in
-    omega (arith, pre'.long)
-
-pub offset_bounds-rows-s : goal.offset_bounds-rows-s
-offset_bounds-rows-s c =
+pub offset_bounds-structure-s : goal.offset_bounds-structure-s
+offset_bounds-structure-s c =
     let pre' = c.requires in
     let loop' = c.loop-k in
     omega (arith, (node _ (pre') loop'.k (omega arith)).inside, (node _ (pre') loop'.k (omega arith)).down)

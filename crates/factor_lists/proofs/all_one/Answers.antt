@@ -1,5 +1,5 @@
 -- `factor_lists::all_one` meets its contract: the chain's answer, place by place. Assumes nothing.
-use Rattle.std.proofs.Common.{rules, eqb, ltb, take, ◌∙◌}
+use Rattle.std.proofs.Common.{rules, eqb, take, ◌∙◌}
 use Rattle.std.proofs.lemmas.Iterator.{YieldsList-from_slice}
 use Rattle.std.proofs.lemmas.Iterator.Search.{all_from_yields_List}
 use borrow.Author.Tests.{tests}

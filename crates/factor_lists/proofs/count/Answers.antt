@@ -1,5 +1,5 @@
 -- `factor_lists::count` meets its contract: the chain's answer, place by place. Assumes nothing.
-use Rattle.std.proofs.Common.{rules, ◌≡◌, ◌-◌, length, get_or, eqb, ltb, take, ◌∙◌}
+use Rattle.std.proofs.Common.{rules, ◌≡◌, eqb, take, ◌∙◌}
 use Rattle.std.specs.List.{count_by}
 use Rattle.factor_lists.proofs.Chains.{tally_of}
 use Rattle.factor_lists.proofs.count.Goals as goal

@@ -1,6 +1,6 @@
 -- `factor_lists::count_all` meets its contract: each word counts its number among those passed. Assumes nothing.
 use mathlib.Core.Path.{◌≡◌}
-use Prim.Native.Nat.{ℕ, ◌-◌, ◌≤◌, ◌<◌}
+use Prim.Native.Nat.{ℕ, ◌≤◌, ◌<◌}
 use lib.Dec.{eqb}
 use lib.ListN.{length, get_or}
 use Rattle.statement.specs.Lists.{tally}

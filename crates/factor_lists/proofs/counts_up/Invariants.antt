@@ -1,5 +1,5 @@
 -- `factor_lists::counts_up` meets its contract: those passed count up. Assumes nothing.
-use Prim.Native.Nat.{◌+◌, ◌-◌}
+use Prim.Native.Nat.{◌+◌}
 use lib.Dec.{eqb}
 use lib.ListN.{get_or}
 use Rattle.laws.proofs.Every.{Tested}

@@ -2,7 +2,6 @@
 use mathlib.Core.Path.{sym, ◌∙◌}
 use Rattle.std.proofs.Common.{rules, ◌≡◌, List, ℕ, ◌++◌, drop, ap}
 use lib.ListN.{replicate}
-use native.Mathlib.Omega.{arith}
 use lib.Seq.{length-take-le}
 use Rattle.factor_lists.proofs.Parts.{names_past, counted, zeros_first, low_of_lem}
 use Rattle.laws.proofs.Taken.{no, yes}

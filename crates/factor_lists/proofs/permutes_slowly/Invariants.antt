@@ -1,5 +1,4 @@
 -- `factor_lists::permutes_slowly` meets its contract: each number passed is named once. Assumes nothing.
-use Prim.Native.Nat.{◌-◌}
 use lib.Dec.{eqb}
 use lib.ListN.{get_or}
 use Rattle.statement.specs.Lists.{tally}
