@@ -11,12 +11,11 @@ ghost use Rattle.checks.specs.Shown.{walk_of};
 
 pub mod walked;
 
-pub use walked::Walked;
-
 use factor_lists::{full_record, good_supernode, permutes, rising_columns};
 use panel::column_start;
 use statement::Record;
 use views::{Factor, Structure};
+pub use walked::Walked;
 
 // (d): each supernode's rows.
 fn good_supernodes(structure: &Structure<'_>) -> bool

@@ -41,11 +41,7 @@ slice_bounds-good_supernode-end c =
     omega (arith, (node _ (pre') loop'.k (omega arith)).inside)
 
 pub good_supernode-requires : goal.good_supernode-requires
-good_supernode-requires c =
-    let pre' = c.requires in
-    let loop' = c.loop-k in
-    let shared-slice-known5' = c.shared_slice_known-in-loop-k-2-1 in
-    omega (arith, (node _ (pre') loop'.k (omega arith)).right, shared-slice-known5'.given (loop'.k + 1))
+good_supernode-requires c = let n = node _ c.requires c.loop-k.k (omega arith) in let h = c.type_inv.structure in omega (arith, n.right, n.cols, h.0)
 
 pub returns-then-not-good_supernode : goal.returns-then-not-good_supernode
 returns-then-not-good_supernode c =

@@ -32,7 +32,7 @@ returns-then-not-is_sorted c =
     let if2' = c.if-structure-last in
     let if3' = c.if-not-is_sorted in
     let e : length args'.structure.now.starts.now - 1 ≡ args'.«record».supernodes = omega (arith, pre'.fitted.starts) in
-    rw (eq-eqb _ _ if1'.false, eq-eqb _ _ if2'.false, sym (rw e at (sorted c.is_sorted.ensures.cases)) ∙ if3'.true)
+    rw (eq-eqb _ _ if1'.false, eq-eqb _ _ if2'.false, sym (rw e at (sorted _ _ c.is_sorted.ensures.cases)) ∙ if3'.true)
 
 pub good_supernodes-requires : goal.good_supernodes-requires
 good_supernodes-requires c =
@@ -42,7 +42,7 @@ good_supernodes-requires c =
     let if2' = c.if-structure-last in
     let if3' = c.if-not-is_sorted in
     let e : length args'.structure.now.starts.now - 1 ≡ args'.«record».supernodes = omega (arith, pre'.fitted.starts) in
-    framed _ _ pre'.fitted (true_T pre'.rows_value) (rw (eq-eqb _ _ if1'.false, eq-eqb _ _ if2'.false, sym (rw e at (sorted c.is_sorted.ensures.cases)) ∙ if3'.false) tt)
+    framed _ _ pre'.fitted (true_T pre'.rows_value) (rw (eq-eqb _ _ if1'.false, eq-eqb _ _ if2'.false, sym (rw e at (sorted _ _ c.is_sorted.ensures.cases)) ∙ if3'.false) tt)
 
 pub returns : goal.returns
 unfolding rising_rows
@@ -55,4 +55,4 @@ returns c =
     let good-supernodes' = c.good_supernodes in
     let e : length args'.structure.now.starts.now - 1 ≡ args'.«record».supernodes = omega (arith, pre'.fitted.starts) in
     let k : length args'.structure.now.firsts.now - 1 ≡ args'.«record».supernodes = omega (arith, pre'.fitted.firsts) in
-    rw (eq-eqb _ _ if1'.false, eq-eqb _ _ if2'.false, sym (rw e at (sorted c.is_sorted.ensures.cases)) ∙ if3'.false) (rw k at good-supernodes'.ensures)
+    rw (eq-eqb _ _ if1'.false, eq-eqb _ _ if2'.false, sym (rw e at (sorted _ _ c.is_sorted.ensures.cases)) ∙ if3'.false) (rw k at good-supernodes'.ensures)

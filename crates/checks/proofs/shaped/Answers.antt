@@ -35,7 +35,7 @@ returns-then-not-rising_rows c =
     rw (h, no rising-rows'.ensures if2'.true)
 
 pub invariant_of-walked : goal.invariant_of-walked
-invariant_of-walked c = walkable_of c.args.«record» _ c.requires.fitted (yes (c.rising_columns.ensures ∙ columns_same _ _ _ _ _) c.if-not-rising_columns.false) (yes c.rising_rows.ensures c.if-not-rising_rows.false)
+invariant_of-walked c = record { valid = walkable_of c.args.«record» _ c.requires.fitted (yes (c.rising_columns.ensures ∙ columns_same _ _ _ _ _) c.if-not-rising_columns.false) (yes c.rising_rows.ensures c.if-not-rising_rows.false) }
 
 pub sized-requires : goal.sized-requires
 sized-requires c = (omega (arith, c.requires.fitted.columns, c.requires.record_bound), c.requires.fitted.firsts)
