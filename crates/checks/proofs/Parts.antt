@@ -1,5 +1,5 @@
 -- The parts of number 11's checks, as the code takes them. Assumes nothing.
-use mathlib.Core.Path.{◌≡◌, refl, sym, ap, ◌∙◌}
+use mathlib.Core.Path.{◌≡◌, refl, sym}
 use mathlib.Core.Bool.{Bool, true, false, ◌&&◌}
 use mathlib.Core.List.{List, []}
 use Prim.Native.Nat.{ℕ, zero, suc, ◌+◌, ◌-◌, ◌*◌, ◌≤◌, ◌<◌}
@@ -22,7 +22,7 @@ use Rattle.laws.specs.Lent.{laid, Fitted, Walkable}
 use Rattle.laws.proofs.Bools.{and_both, T_false}
 use Rattle.laws.proofs.Every.{every_all, every_not}
 use Rattle.laws.proofs.Taken.{true_T}
-use Rattle.laws.proofs.Checked.{cut, columns_few, Roomy, roomy, fitted, rising_starts, rows_parts, walkable}
+use Rattle.laws.proofs.Checked.{columns_few, Roomy, roomy, fitted, rising_starts, rows_parts, walkable}
 
 -- more supernodes than columns: (c) fails
 pub too_many : (R : Record) (S : Shape) → R.n < R.supernodes → rising_columns R S ≡ false

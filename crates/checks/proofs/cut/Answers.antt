@@ -1,5 +1,4 @@
 -- `checks::cut` meets its contract: the lists up to the record's counts. Assumes nothing.
-use Rattle.statement.specs.Solve.{shape_in}
 use Rattle.laws.proofs.Checked.{cut}
 use Rattle.checks.proofs.cut.Goals as goal
 

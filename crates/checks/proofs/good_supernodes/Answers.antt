@@ -1,8 +1,6 @@
 use mathlib.Core.Path.{refl, sym, ◌∙◌}
-use Prim.Native.Nat.{◌+◌, ◌-◌}
 use native.Mathlib.Numerals.{add-one}
 use native.Mathlib.Omega.{arith}
-use Rattle.statement.specs.Solve.{good_supernode}
 use Rattle.laws.proofs.Every.{tested_start, tested_more, tested_stop, tested_over}
 use Rattle.laws.proofs.Walked.{node}
 use Rattle.checks.proofs.good_supernodes.Goals as goal

@@ -1,6 +1,6 @@
 -- `checks::offset` meets its contract: the supernodes passed are added up, at most 32,768 for each of their columns. Assumes nothing.
 use mathlib.Core.Path.{◌≡◌}
-use Prim.Native.Nat.{◌-◌, ◌*◌, ◌≤◌}
+use Prim.Native.Nat.{◌*◌, ◌≤◌}
 use lib.ListN.{get_or}
 use Rattle.statement.specs.Shape.{offset}
 use Rattle.checks.specs.Shown.{walk_of}
