@@ -100,7 +100,8 @@ fn shaped(record: Record, structure: &Structure<'_>) -> bool
 pub fn cut<'a>(record: Record, factor: &Factor<'a>) -> Structure<'a>
     requires columns { («record».supernodes < length factor.now.firsts.now) × («record».supernodes < length factor.now.starts.now) }
     requires rows { «record».rows ≤ length factor.now.rows.now }
-    ensures { shape_of result ≡ shape_in «record» (areas_of factor.now) }
+    ensures n { result.n ≡ «record».n }
+    ensures shape { shape_of result ≡ shape_in «record» (areas_of factor.now) }
 {
     let many = record.supernodes + 1;
     Structure {

@@ -11,12 +11,12 @@ use lib.Seq.{length-take-le, drop-drop}
 use lib.Ieee.{Float}
 use borrow.Author.Tests.{lt-ltb}
 use Rattle.statement.specs.Shape.{Shape, supernodes, first, height, rows_of, trapezoid, offset}
-use Rattle.statement.specs.Solve.{FactorAreas, viewable, rows_in, start_in, values_in, view}
+use Rattle.statement.specs.Solve.{FactorAreas, shape_in, viewable, rows_in, start_in, values_in, view}
 use Rattle.statement.specs.declared.Factored.{Factored}
 use Rattle.statement.specs.declared.Record.{Record}
 use Rattle.panel.specs.View.{column_of, Within}
 use Rattle.laws.specs.Lent.{laid, Walkable}
-use Rattle.laws.proofs.Checked.{Viewed, viewed, cut}
+use Rattle.laws.proofs.Checked.{Viewed, viewed}
 use Rattle.laws.proofs.Columns.{owner_of_lem}
 use Rattle.laws.proofs.Entry.{trap_suc, trap_mono}
 use Rattle.laws.proofs.Stretches.{offset_mono}
@@ -96,17 +96,11 @@ module _ (R : Record) (f : FactorAreas) (h : viewable R f ≡ true) where
   pub seen : Viewed R f
   seen = viewed R f (true_T h)
 
-  abbrev part : Shape
-  part = laid R.n (take (R.supernodes + 1) f.firsts) (take (R.supernodes + 1) f.starts) (take R.rows f.rows)
+  pub seen_room : (S : Shape) → S ≡ shape_in R f → offset S (supernodes S) ≤ length f.values
+  seen_room S e =
+      let z : supernodes S ≡ R.supernodes = omega (arith, seen.fitted.firsts, ap supernodes e) in
+      omega (arith, seen.roomy.values, seen.entries, ap₂ offset e z)
 
-  pub part_walkable : Walkable part
-  part_walkable = rw (cut R f) seen.walkable
-
-  pub part_room : offset part (supernodes part) ≤ length f.values
-  part_room =
-      let z : supernodes part ≡ R.supernodes = omega (arith, length-take-le (R.supernodes + 1) f.firsts (omega (arith, seen.few, seen.roomy.firsts))) in
-      omega (arith, seen.roomy.values, seen.entries, ap₂ offset (cut R f) z)
-
-  pub part_viewed : (q : Factored) (r : List Float) → q.0 < R.n → r ≡ values_in part f.values q.0 → r ≡ view R f q
+  pub seen_view : (q : Factored) (r : List Float) → q.0 < R.n → r ≡ values_in (shape_in R f) f.values q.0 → r ≡ view R f q
   unfolding view
-  part_viewed q r l e = rw (h, lt-ltb q.0 R.n l) (e ∙ ap (λ S. values_in S f.values q.0) (cut R f))
+  seen_view q r l e = rw (h, lt-ltb q.0 R.n l) e

@@ -2,5 +2,5 @@
 use Rattle.laws.proofs.Checked.{cut}
 use Rattle.checks.proofs.cut.Goals as goal
 
-pub returns : goal.returns
-returns c = cut _ _
+pub returns-clause-shape : goal.returns-clause-shape
+returns-clause-shape c = cut _ _

@@ -19,9 +19,9 @@ cut-requires c = let r = room _ _ (yes c.full_record.ensures c.if-not-full_recor
 pub shaped-requires : goal.shaped-requires
 shaped-requires c =
     let h = yes c.full_record.ensures c.if-not-full_record.false in
-    record { fitted = rw c.cut.ensures (part_fits _ _ h c.if-record.false); record_bound = (room _ _ h).small }
+    record { fitted = rw c.cut.ensures.shape (part_fits _ _ h c.if-record.false); record_bound = (room _ _ h).small }
 
 pub returns : goal.returns
 returns c =
     let h = yes c.full_record.ensures c.if-not-full_record.false in
-    (rw c.cut.ensures at c.shaped.ensures) ∙ sym (view_rest _ _ h)
+    (rw c.cut.ensures.shape at c.shaped.ensures) ∙ sym (view_rest _ _ h)
