@@ -12,7 +12,6 @@ use borrow.Rule.Slice.PartMut.{put_mid}
 use Rattle.statement.specs.Lists.{joined}
 use Rattle.statement.specs.Shape.{Shape}
 use Rattle.statement.specs.Solve.{solution, side_in, solutions}
-use Rattle.laws.specs.Lent.{laid}
 use Rattle.laws.proofs.Sides.{solutions_length}
 
 module _ (n : ℕ) (q : List ℕ) (S : Shape) (v : List Float) (k : ℕ) (b₀ : List Float) where

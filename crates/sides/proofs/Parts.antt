@@ -1,17 +1,13 @@
 -- What number 11's checks tell of the factor that the record's counts cut out. Assumes nothing.
 use mathlib.Core.Path.{◌≡◌, ap, ◌∙◌}
 use mathlib.Core.Bool.{true, ◌&&◌}
-use mathlib.Core.List.{List}
-use Prim.Native.Nat.{ℕ, ◌+◌, ◌<◌}
+use Prim.Native.Nat.{ℕ, ◌<◌}
 use native.Mathlib.Omega.{arith}
 use lib.Dec.{T}
-use lib.ListN.{take}
-use lib.Ieee.{Float}
 use Rattle.statement.specs.Lists.{every}
-use Rattle.statement.specs.Shape.{Shape, supernodes, offset}
-use Rattle.statement.specs.Solve.{FactorAreas, shape_in, full_record, permutes, rising_columns, good_supernode, rising_rows, sized, viewable, solvable, solutions}
+use Rattle.statement.specs.Shape.{supernodes, offset}
+use Rattle.statement.specs.Solve.{FactorAreas, shape_in, full_record, permutes, rising_columns, good_supernode, rising_rows, sized, viewable, solvable}
 use Rattle.statement.specs.declared.Record.{Record}
-use Rattle.laws.specs.Lent.{laid}
 use Rattle.laws.proofs.Checked.{rising_starts, rows_parts, ready}
 use Rattle.laws.proofs.Bools.{and_both, T_true}
 use Rattle.laws.proofs.Every.{every_at}

@@ -1,5 +1,5 @@
 -- `solve::attempt` meets its contract: number 11, then 14, 10 and 5, then the solutions. Assumes nothing.
-use mathlib.Core.Path.{sym, ◌∙◌}
+use mathlib.Core.Path.{◌∙◌}
 use Rattle.laws.proofs.Checked.{ready}
 use Rattle.laws.proofs.Passed.{exit_is}
 use Rattle.laws.proofs.Taken.{no, yes, true_T}

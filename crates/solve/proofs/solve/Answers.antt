@@ -1,6 +1,6 @@
 -- `solve::solve` meets its contract: the attempt, then scratch cleared. Assumes nothing.
-use Rattle.std.proofs.Common.{rules, ◌≡◌, sym, ◌∙◌}
-use lib.ListN.{length, replicate}
+use Rattle.std.proofs.Common.{sym, ◌∙◌}
+use lib.ListN.{length}
 use Rattle.statement.specs.Input.{+0}
 use Rattle.solve.proofs.Answered.{answers_ok, answers_err, settles, cleared}
 use Rattle.solve.proofs.solve.Goals as goal
