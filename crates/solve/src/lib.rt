@@ -72,11 +72,7 @@ fn owner(firsts: &[usize], q: usize) -> usize
     requires firsts_bound { (get_or firsts.now 0 0 ≤ q) × (q < get_or firsts.now (length firsts.now - 1) 0) }
     ensures { Owned firsts.now q result }
 {
-    let mut k: usize = 0;
-    while firsts[k + 1] <= q {
-        k += 1;
-    }
-    k
+    firsts.partition_point(|f| *f <= q) - 1
 }
 
 // Column q of the structure, diagonal first.
