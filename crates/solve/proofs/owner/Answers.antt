@@ -1,8 +1,7 @@
 -- `solve::owner` meets its contract: the first columns up to q come before those past it. Assumes nothing.
-use Rattle.std.proofs.Common.{rules, ◌≡◌, true, false, ◌≤◌, ◌<◌, ◌-◌, get_or, length, leb}
+use Rattle.std.proofs.Common.{rules, leb}
 use Rattle.std.proofs.lemmas.List.Sorted.{IsPartitionPoint-from_clause}
 use borrow.Author.Tests.{tests}
-use native.Mathlib.Omega.{arith}
 use Rattle.solve.proofs.Viewed.{parted, owner_some, owner_at}
 use Rattle.solve.proofs.owner.Goals as goal
 
