@@ -6,6 +6,7 @@ ghost use Rattle.std.specs.Float.{nan};
 ghost use Rattle.areas.specs.Touch.{Touched};
 ghost use Rattle.forward_four.specs.Four.{less, column, Four};
 
+// The columns and quotients go by name, not as arrays: each product has its own column, quotient and place, so an index would be added to each and nothing folded.
 // x, less four products at each of the n places from `at`, one after the other: the rows below the first four, of each column.
 fn subtract4(
     v0: &[f64],

@@ -41,6 +41,7 @@ fn reduce(rows: &[usize], values: &[f64], z: f64, x: &[f64]) -> f64
     t
 }
 
+// Not one function with `subtract` (nor `reduce_run` with `reduce`) over a closure for the row: a run reads no rows, and the closure with its clauses is longer than this loop.
 // x, less the value times y at each of the places from `at`.
 fn subtract_run(at: usize, values: &[f64], y: f64, x: &mut [f64])
     requires { at + length values.now ≤ length x.old }
@@ -175,6 +176,7 @@ fn forward_supernode(factor: &Full<'_>, k: usize, off: usize, x: &mut [f64]) -> 
     off + column_start(e - s, w)
 }
 
+// Not one function with the rising one: each has its own end of the stretch given and asks for the other, and each promises its own pass.
 // Supernode k, falling. Returns where its values start.
 fn backward_supernode(factor: &Full<'_>, k: usize, end: usize, x: &mut [f64]) -> usize
     requires k_in_bounds { k < length factor.now.firsts.now - 1 }
