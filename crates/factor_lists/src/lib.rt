@@ -6,36 +6,29 @@ ghost use Rattle.std.specs.Prelude.{◌≡◌, true, [], ℕ, suc, ◌+◌, ◌-
 ghost use Rattle.statement.specs.Lists.{every, tally};
 ghost use Rattle.statement.specs.Shape.{Shape, first, width, rows_of};
 ghost use Rattle.statement.specs.Solve.{full_record, permutes, rising_columns, good_supernode};
-ghost use Rattle.laws.specs.Lent.{lent, laid};
+ghost use Rattle.laws.specs.Lent.{laid};
+ghost use Rattle.views.specs.Shown.{areas_of};
 
 use answers::is_full;
-use areas::fill_part;
 use statement::Record;
+use views::Factor;
 
 // The numbers of l stay below n.
 fn all_below(l: &[usize], n: usize) -> bool
     ensures { result ≡ every (λ x. ltb (get_or l.now x 0) n) (length l.now) }
 {
-    let mut i: usize = 0;
-    while i < l.len() {
-        if l[i] >= n {
-            return false;
-        }
-        i += 1;
-    }
-    true
+    l.iter().all(|x| *x < n)
 }
 
 // The numbers of l rise strictly.
 fn all_rising(l: &[usize]) -> bool
     ensures { result ≡ every (λ x. ltb (get_or l.now x 0) (get_or l.now (suc x) 0)) (length l.now - 1) }
 {
-    let mut i: usize = 0;
-    while i + 1 < l.len() {
+    // not is_sorted_by: tried, and its clause leaves open how the items that it took stand in l
+    for i in 0..l.len().saturating_sub(1) {
         if l[i] >= l[i + 1] {
             return false;
         }
-        i += 1;
     }
     true
 }
@@ -58,12 +51,10 @@ fn counts_up(l: &[usize], f: usize, w: usize) -> bool
     requires w_bound { f + w < 2 ^ 64 }
     ensures { result ≡ every (λ c. eqb (get_or l.now c 0) (f + c)) w }
 {
-    let mut c: usize = 0;
-    while c < w {
+    for c in 0..w {
         if l[c] != f + c {
             return false;
         }
-        c += 1;
     }
     true
 }
@@ -73,15 +64,7 @@ fn count(p: &[usize], v: usize, n: usize) -> usize
     requires { n ≤ length p.now }
     ensures { result ≡ tally (λ a. eqb (get_or p.now a 0) v) n }
 {
-    let mut t: usize = 0;
-    let mut k: usize = 0;
-    while k < n {
-        if p[k] == v {
-            t += 1;
-        }
-        k += 1;
-    }
-    t
+    p[..n].iter().filter(|x| **x == v).count()
 }
 
 // (b), with no room to count in.
@@ -89,12 +72,10 @@ fn permutes_slowly(n: usize, p: &[usize]) -> bool
     requires { n ≤ length p.now }
     ensures { result ≡ permutes n p.now }
 {
-    let mut v: usize = 0;
-    while v < n {
+    for v in 0..n {
         if count(p, v, n) != 1 {
             return false;
         }
-        v += 1;
     }
     true
 }
@@ -106,11 +87,9 @@ fn count_all(n: usize, p: &[usize], words: &mut [usize])
     requires by_index_2 { (i : ℕ) → i < n → get_or p.now i 0 < n }
     ensures { (v : ℕ) → v < n → get_or words.new v 0 ≡ tally (λ a. eqb (get_or p.now a 0) v) n }
 {
-    let mut k: usize = 0;
-    while k < n {
+    for k in 0..n {
         let v = p[k];
-        words[v] = words[v] + 1;
-        k += 1;
+        words[v] += 1;
     }
 }
 
@@ -119,14 +98,7 @@ fn all_one(n: usize, l: &[usize]) -> bool
     requires { n ≤ length l.now }
     ensures { result ≡ every (λ v. eqb (get_or l.now v 0) 1) n }
 {
-    let mut i: usize = 0;
-    while i < n {
-        if l[i] != 1 {
-            return false;
-        }
-        i += 1;
-    }
-    true
+    l[..n].iter().all(|x| *x == 1)
 }
 
 // (b): the permutation names 0..n-1 once each. The words serve to count in where there are n of them.
@@ -140,7 +112,7 @@ pub fn permutes(n: usize, p: &[usize], words: &mut [usize]) -> bool
     if !all_below(&p[..n], n) {
         return false;
     }
-    fill_part(n, 0, words);
+    words[..n].fill(0);
     count_all(n, p, words);
     all_one(n, &words[..])
 }
@@ -178,34 +150,26 @@ pub fn good_supernode(rows: &[usize], f: usize, w: usize, n: usize) -> bool
 }
 
 // (a): the record is full, n is at most 32,768 and areas 1, 2, 3, 9 and 11 meet the needs by its counts.
-pub fn full_record(
-    record: Record,
-    permutation: &[usize],
-    firsts: &[usize],
-    starts: &[usize],
-    rows: &[usize],
-    values: &[f64],
-) -> bool
-    ensures { result ≡ full_record «record» (lent permutation.now firsts.now starts.now rows.now values.now) }
+pub fn full_record(record: Record, factor: &Factor<'_>) -> bool
+    ensures { result ≡ full_record «record» (areas_of factor.now) }
 {
-    let state = record.state;
-    if !is_full(state) {
+    if !is_full(record.state) {
         return false;
     }
     if record.n > 32768 {
         return false;
     }
-    if permutation.len() < record.n {
+    if factor.permutation.len() < record.n {
         return false;
     }
-    if firsts.len() <= record.n {
+    if factor.firsts.len() <= record.n {
         return false;
     }
-    if starts.len() <= record.n {
+    if factor.starts.len() <= record.n {
         return false;
     }
-    if rows.len() < record.rows {
+    if factor.rows.len() < record.rows {
         return false;
     }
-    record.entries <= values.len()
+    record.entries <= factor.values.len()
 }

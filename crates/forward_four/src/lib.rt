@@ -6,6 +6,7 @@ ghost use Rattle.std.specs.Float.{nan};
 ghost use Rattle.areas.specs.Touch.{Touched};
 ghost use Rattle.forward_four.specs.Four.{less, column, Four};
 
+// The columns and quotients go by name, not as arrays: each product has its own column, quotient and place, so an index would be added to each and nothing folded.
 // x, less four products at each of the n places from `at`, one after the other: the rows below the first four, of each column.
 fn subtract4(
     v0: &[f64],
@@ -23,11 +24,9 @@ fn subtract4(
     requires { (at + n ≤ length x.old) × (4 + n ≤ length v0.now) × (3 + n ≤ length v1.now) × (2 + n ≤ length v2.now) × (1 + n ≤ length v3.now) }
     ensures { Touched nan x.old x.new n (λ i. at + i) (λ i. less v3.now y3 (1 + i) (less v2.now y2 (2 + i) (less v1.now y1 (3 + i) (less v0.now y0 (4 + i) (get_or x.old (at + i) nan))))) }
 {
-    let mut i: usize = 0;
-    while i < n {
+    for i in 0..n {
         x[at + i] = (((x[at + i] - v0[4 + i] * y0) - v1[3 + i] * y1) - v2[2 + i] * y2)
             - v3[1 + i] * y3;
-        i += 1;
     }
 }
 

@@ -16,13 +16,11 @@ pub fn offsets(ns: usize, firsts: &[usize], starts: &[usize], to: &mut [usize]) 
     ensures to_after { (S : Shape) → Of S firsts.now starts.now ns → to.new ≡ list (offset S) ns ++ drop ns to.old }
 {
     let mut at = 0;
-    let mut k = 0;
-    while k < ns {
+    for k in 0..ns {
         to[k] = at;
         let m = starts[k + 1] - starts[k];
         let w = firsts[k + 1] - firsts[k];
-        at = at + column_start(m, w);
-        k += 1;
+        at += column_start(m, w);
     }
     at
 }

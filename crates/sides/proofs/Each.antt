@@ -12,7 +12,6 @@ use borrow.Rule.Slice.PartMut.{put_mid}
 use Rattle.statement.specs.Lists.{joined}
 use Rattle.statement.specs.Shape.{Shape}
 use Rattle.statement.specs.Solve.{solution, side_in, solutions}
-use Rattle.laws.specs.Lent.{laid}
 use Rattle.laws.proofs.Sides.{solutions_length}
 
 module _ (n : ℕ) (q : List ℕ) (S : Shape) (v : List Float) (k : ℕ) (b₀ : List Float) where
@@ -69,15 +68,3 @@ module _ (n : ℕ) (q : List ℕ) (S : Shape) (v : List Float) (k : ℕ) (b₀ :
     each_over h =
         let e : j ≡ k = omega (arith, w.to) in
         w.is ∙ rw (e, drop_of_length-le b₀ {i = n * k} (omega arith), append-nil) refl
-
--- a turn of the loop: x keeps its length
-pub record Turn (n : ℕ) (q : List ℕ) (S : Shape) (v : List Float) (k : ℕ) (b₀ x b : List Float) (j : ℕ) : Type 0 where
-  pub unknowns : length x ≡ n
-  pub done : Each n q S v k b₀ b j
-
-pub turn_more : (n : ℕ) (q F S R : List ℕ) (v : List Float) (k : ℕ) (b₀ : List Float) → length b₀ ≡ n * k → {x b : List Float} {j : ℕ} → Turn n q (laid n F S R) v k b₀ x b j → j < k → (d : ℕ) → d ≡ n → (x' y : List Float) → length x' ≡ length x
-    → y ≡ solution (length x) q (laid (length x) F S R) v (take d (drop (n * j) b)) → Turn n q (laid n F S R) v k b₀ x' (put_mid (n * j) d b y) (j + 1)
-turn_more n q F S R v k b₀ whole w h d e x' y l z = record {
-  unknowns = l ∙ w.unknowns;
-  done = each_more n q (laid n F S R) v k b₀ whole w.done h d e y (rw w.unknowns at z);
-}

@@ -1,33 +1,23 @@
--- The right sides over the parts that the record's counts cut out. Assumes nothing.
+-- What number 11's checks tell of the factor that the record's counts cut out. Assumes nothing.
 use mathlib.Core.Path.{◌≡◌, ap, ◌∙◌}
 use mathlib.Core.Bool.{true, ◌&&◌}
-use mathlib.Core.List.{List}
-use Prim.Native.Nat.{ℕ, ◌+◌, ◌<◌}
+use Prim.Native.Nat.{ℕ, ◌<◌}
 use native.Mathlib.Omega.{arith}
 use lib.Dec.{T}
-use lib.ListN.{take}
-use lib.Ieee.{Float}
 use Rattle.statement.specs.Lists.{every}
-use Rattle.statement.specs.Shape.{Shape, supernodes, offset}
-use Rattle.statement.specs.Solve.{FactorAreas, shape_in, full_record, permutes, rising_columns, good_supernode, rising_rows, sized, viewable, solvable, solutions}
+use Rattle.statement.specs.Shape.{supernodes, offset}
+use Rattle.statement.specs.Solve.{FactorAreas, shape_in, full_record, permutes, rising_columns, good_supernode, rising_rows, sized, viewable, solvable}
 use Rattle.statement.specs.declared.Record.{Record}
-use Rattle.laws.specs.Lent.{laid}
-use Rattle.laws.proofs.Checked.{rising_starts, rows_parts, cut, ready}
+use Rattle.laws.proofs.Checked.{rising_starts, rows_parts, ready}
 use Rattle.laws.proofs.Bools.{and_both, T_true}
 use Rattle.laws.proofs.Every.{every_at}
 use Rattle.laws.proofs.Taken.{true_T}
 use Rattle.solving.specs.Walk.{Solving}
 
-module _ (R : Record) (f : FactorAreas) (m : ℕ) (e : m ≡ R.n) where
-  abbrev part : Shape
-  part = laid m (take (R.supernodes + 1) f.firsts) (take (R.supernodes + 1) f.starts) (take R.rows f.rows)
-
-  part_is : part ≡ shape_in R f
-  part_is = ap (λ i. laid i (take (R.supernodes + 1) f.firsts) (take (R.supernodes + 1) f.starts) (take R.rows f.rows)) e ∙ cut R f
-
+module _ (R : Record) (f : FactorAreas) where
   -- (d) of each supernode
-  part_good : solvable R f ≡ true → (K : ℕ) → K < supernodes (shape_in R f) → T (good_supernode (shape_in R f) K)
-  part_good h K l =
+  good_all : solvable R f ≡ true → (K : ℕ) → K < supernodes (shape_in R f) → T (good_supernode (shape_in R f) K)
+  good_all h K l =
       let r = ready R f (true_T h) in
       let S = shape_in R f in
       let a = and_both (viewable R f) (permutes R.n f.permutation) (unfold solvable in true_T h) in
@@ -36,18 +26,15 @@ module _ (R : Record) (f : FactorAreas) (m : ℕ) (e : m ≡ R.n) where
       let d = and_both (rising_starts R S.starts) (every (good_supernode S) R.supernodes) (rw (rows_parts R S) at c.0) in
       every_at (good_supernode S) R.supernodes d.1 K (omega (arith, r.viewed.fitted.firsts))
 
-  pub part_solving : solvable R f ≡ true → Solving part f.permutation f.values R.entries
-  part_solving h =
+  pub whole_solving : solvable R f ≡ true → Solving (shape_in R f) f.permutation f.values R.entries
+  whole_solving h =
       let r = ready R f (true_T h) in
       let v = r.viewed in
-      rw part_is (record {
-        walked = record { walk = v.walkable; good = part_good h };
+      record {
+        walked = record { walk = v.walkable; good = good_all h };
         few = omega (arith, v.fitted.columns, v.roomy.small);
         sized = v.entries ∙ ap (offset (shape_in R f)) (let z : R.supernodes ≡ supernodes (shape_in R f) = omega (arith, v.fitted.firsts) in z);
         room = v.roomy.values;
         long = omega (arith, v.fitted.columns, v.roomy.permutation);
         once = ap (λ i. permutes i f.permutation) v.fitted.columns ∙ T_true _ (and_both (viewable R f) (permutes R.n f.permutation) (unfold solvable in true_T h)).1;
-      })
-
-  pub part_solved : (k : ℕ) (b r : List Float) → r ≡ solutions m f.permutation part f.values k b → r ≡ solutions R.n f.permutation (shape_in R f) f.values k b
-  part_solved k b r h = h ∙ ap (λ i. solutions i f.permutation part f.values k b) e ∙ ap (λ S. solutions R.n f.permutation S f.values k b) part_is
+      }

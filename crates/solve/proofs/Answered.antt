@@ -1,6 +1,5 @@
 -- What solve settles: by number 11, by the tests of the right sides, and in the scratch. Assumes nothing.
-use mathlib.Core.Path.{◌≡◌, refl, sym, ap, ◌∙◌}
-use mathlib.Core.Logic.{◌≢◌}
+use mathlib.Core.Path.{◌≡◌, ap, ◌∙◌}
 use mathlib.Core.Bool.{true, false}
 use mathlib.Core.List.{List}
 use mathlib.Core.Option.{Option, none, some}
@@ -14,42 +13,52 @@ use Rattle.statement.specs.Solve.{FactorAreas, shape_in, solvable, sides_limit, 
 use Rattle.statement.specs.declared.Answer.{Answer}
 use Rattle.statement.specs.declared.Answer.TheVariants.{Accepted, NoFactor}
 use Rattle.statement.specs.declared.Record.{Record}
-use Rattle.laws.specs.Answered.{answered}
-use Rattle.laws.proofs.Exactly.{solve_refused}
+use Rattle.std.specs.Prelude.{Result, Ok, Err}
+use Rattle.laws.specs.Answered.{passed}
+use Rattle.laws.proofs.Passed.{passed_none, passed_some}
 use Rattle.laws.proofs.Given.{solve_given}
-use Rattle.laws.proofs.Sides.{accepted_left}
 
 module _ (R : Record) (f : FactorAreas) (k : ℕ) (b : List Float) (words floats : ℕ) where
   abbrev pub Ends : Answer → List Float → Type 0
   Ends a x = (a ≡ (solve R f k b words floats).answer) × (x ≡ (solve R f k b words floats).b)
 
-  pub no_factor : solvable R f ≡ false → Ends NoFactor b
-  unfolding solve solve_fault settled_solve test
+  -- as attempt ends: the fault, and what stands in b
+  abbrev pub Leaves : Result Unit Answer → List Float → Type 0
+  Leaves r x = (r ≡ passed (solve_fault R f k b words floats)) × (x ≡ (solve R f k b words floats).b)
+
+  pub no_factor : solvable R f ≡ false → Leaves (Err NoFactor) b
+  unfolding passed solve solve_fault settled_solve test
   no_factor h = (rw h, rw h)
 
-  -- the factor is whole, and a is what the tests of the right sides come to
-  module _ (h : solvable R f ≡ true) (a : Answer) (e : a ≡ answered (sides_fault R.n k (length b) words floats)) where
-    answers : a ≡ (solve R f k b words floats).answer
-    unfolding solve solve_fault settled_solve test answered
-    answers = rw h (e ∙ go (sides_fault R.n k (length b) words floats))
-      where
-        go : (o : Option Answer) → answered o ≡ (settled_solve o b (solutions R.n f.permutation (shape_in R f) f.values k b) words floats).answer
-        go none = refl
-        go (some c) = refl
+  -- the factor is whole: the tests of the right sides decide
+  module _ (h : solvable R f ≡ true) where
+    pub refused : {a : Answer} → Err a ≡ passed (sides_fault R.n k (length b) words floats) → Leaves (Err a) b
+    unfolding passed solve solve_fault settled_solve test
+    refused e = (rw h e, rw (h, passed_some _ e))
 
-    pub refused : a ≢ Accepted → Ends a b
-    refused n = (answers, sym (solve_refused R f k b words floats (λ q. n (answers ∙ q))))
-
-    module _ (ok : a ≡ Accepted) where
+    module _ {u : Unit {0}} (e : Ok u ≡ passed (sides_fault R.n k (length b) words floats)) where
       pub roomy : (R.n ≤ floats) × (k ≤ sides_limit) × (length b ≡ R.n * k)
-      roomy = let s = (solve_given R f k b words floats).accepted.0 (sym answers ∙ ok) in (s.1 1 (omega arith), s.0.0.1, s.0.1)
+      roomy = let s = (solve_given R f k b words floats).accepted.0 is in (s.1 1 (omega arith), s.0.0.1, s.0.1)
+        where
+          is : (solve R f k b words floats).answer ≡ Accepted
+          is = unfold solve solve_fault settled_solve test in rw (h, passed_none _ e)
 
-      pub accepted : (x : List Float) → x ≡ solutions R.n f.permutation (shape_in R f) f.values k b → Ends a x
-      accepted x z = (answers, z ∙ sym (accepted_left R f words floats k b (sym answers ∙ ok)))
+      pub accepted : (x : List Float) → x ≡ solutions R.n f.permutation (shape_in R f) f.values k b → Leaves (Ok tt) x
+      unfolding passed solve solve_fault settled_solve test
+      accepted x z = (rw (h, passed_none _ e), rw (h, passed_none _ e) z)
+
+  -- what solve answers
+  pub answers_ok : {u : Unit {0}} → Ok u ≡ passed (solve_fault R f k b words floats) → Accepted ≡ (solve R f k b words floats).answer
+  unfolding solve settled_solve
+  answers_ok e = rw (passed_none _ e)
+
+  pub answers_err : {a : Answer} → Err a ≡ passed (solve_fault R f k b words floats) → a ≡ (solve R f k b words floats).answer
+  unfolding solve settled_solve
+  answers_err e = rw (passed_some _ e)
 
 -- over scratch words as long as they were
-pub as_lent : (n k buffer words words' floats : ℕ) {a : Answer} → words' ≡ words → a ≡ answered (sides_fault n k buffer words' floats) → a ≡ answered (sides_fault n k buffer words floats)
-as_lent n k buffer words words' floats e h = h ∙ ap (λ w. answered (sides_fault n k buffer w floats)) e
+pub as_lent : (n k buffer words words' floats : ℕ) {r : Result Unit Answer} → words' ≡ words → r ≡ passed (sides_fault n k buffer words' floats) → r ≡ passed (sides_fault n k buffer words floats)
+as_lent n k buffer words words' floats e h = h ∙ ap (λ w. passed (sides_fault n k buffer w floats)) e
 
 -- scratch is zero after every call
 whole : (o : Option Answer) (b x : List Float) (words floats : ℕ) (a : Answer) (y : List Float) (w : List ℕ) (z : List Float) → a ≡ (settled_solve o b x words floats).answer → y ≡ (settled_solve o b x words floats).b

@@ -3,51 +3,36 @@
 
 ghost use Rattle.std.specs.Prelude.{◌≡◌, ℕ, suc, ◌-◌, ◌≤◌, ◌<◌, length, get_or};
 ghost use Rattle.statement.specs.Shape.{offset};
-ghost use Rattle.statement.specs.Solve.{values_in, solve, Solves, Views};
-ghost use Rattle.laws.specs.Lent.{lent, laid, Walkable};
+ghost use Rattle.statement.specs.Solve.{values_in, solve_fault, solve, Solves, Views};
+ghost use Rattle.laws.specs.Answered.{passed};
+ghost use Rattle.views.specs.Shown.{areas_of};
+ghost use Rattle.checks.specs.Shown.{walk_of};
 ghost use Rattle.solve.specs.Found.{Owned};
 
-use areas::{clear_floats, clear_words};
-use checks::{offset, solvable, viewable};
+use checks::{Walked, cut, offset, solvable, viewable};
 use panel::panel_column;
 use sides::{sides_answer, solve_sides};
 use statement::{Answer, Factored, Record};
+use views::Factor;
 
-// The answer, and b solved where it is accepted. Words and floats are left as they fall.
+// The first fault, or b solved. Words and floats are left as they fall.
 fn attempt(
     record: Record,
-    permutation: &[usize],
-    firsts: &[usize],
-    starts: &[usize],
-    rows: &[usize],
-    values: &[f64],
+    factor: &Factor<'_>,
     words: &mut [usize],
     floats: &mut [f64],
     sides: usize,
     b: &mut [f64],
-) -> Answer
-    ensures value { result ≡ (solve «record» (lent permutation.now firsts.now starts.now rows.now values.now) sides b.old (length words.old) (length floats.old)).answer }
-    ensures b_after { b.new ≡ (solve «record» (lent permutation.now firsts.now starts.now rows.now values.now) sides b.old (length words.old) (length floats.old)).b }
+) -> Result<(), Answer>
+    ensures value { result ≡ passed (solve_fault «record» (areas_of factor.now) sides b.old (length words.old) (length floats.old)) }
+    ensures b_after { b.new ≡ (solve «record» (areas_of factor.now) sides b.old (length words.old) (length floats.old)).b }
 {
-    if !solvable(record, permutation, firsts, starts, rows, values, words) {
-        return Answer::NoFactor;
+    if !solvable(record, factor, words) {
+        return Err(Answer::NoFactor);
     }
-    let a = sides_answer(record.n, sides, b.len(), words.len(), floats.len());
-    let Answer::Accepted = a else {
-        return a;
-    };
-    solve_sides(
-        record,
-        permutation,
-        firsts,
-        starts,
-        rows,
-        values,
-        floats,
-        sides,
-        b,
-    );
-    a
+    sides_answer(record.n, sides, b.len(), words.len(), floats.len())?;
+    solve_sides(record, factor, floats, sides, b);
+    Ok(())
 }
 
 // Solve for so many right sides, one after another in b, in place.
@@ -65,21 +50,20 @@ pub fn solve(
 ) -> Answer
     ensures { Solves «record» (record { permutation = permutation.entry.now; firsts = firsts.now; starts = starts.now; rows = rows.now; values = values.now }) sides b.old (length words.old) (length floats.old) (record { answer = result; b = b.new; words = words.new; floats = floats.new }) }
 {
-    let x = attempt(
-        record,
+    let factor = Factor {
         permutation,
         firsts,
         starts,
         rows,
         values,
-        words,
-        floats,
-        sides,
-        b,
-    );
-    clear_words(words);
-    clear_floats(floats);
-    x
+    };
+    let done = attempt(record, &factor, words, floats, sides, b);
+    words.fill(0);
+    floats.fill(0.0);
+    match done {
+        Ok(()) => Answer::Accepted,
+        Err(a) => a,
+    }
 }
 
 // The supernode that owns column q.
@@ -88,31 +72,19 @@ fn owner(firsts: &[usize], q: usize) -> usize
     requires firsts_bound { (get_or firsts.now 0 0 ≤ q) × (q < get_or firsts.now (length firsts.now - 1) 0) }
     ensures { Owned firsts.now q result }
 {
-    let mut k: usize = 0;
-    while firsts[k + 1] <= q {
-        k += 1;
-    }
-    k
+    firsts.partition_point(|f| *f <= q) - 1
 }
 
-// Column q of the structure in these lists, diagonal first.
-fn column_part<'a>(
-    n: usize,
-    firsts: &[usize],
-    starts: &[usize],
-    rows: &[usize],
-    values: &'a [f64],
-    q: usize,
-) -> &'a [f64]
-    requires walkable { Walkable (laid n firsts.now starts.now rows.now) }
-    requires firsts_in_bounds { offset (laid n firsts.now starts.now rows.now) (length firsts.now - 1) ≤ length values.now }
-    requires n_bound { (n ≤ 32768) × (q < n) }
-    ensures { result.now ≡ values_in (laid n firsts.now starts.now rows.now) values.now q }
+// Column q of the structure, diagonal first.
+fn column_part<'a>(walked: &Walked<'_>, values: &'a [f64], q: usize) -> &'a [f64]
+    requires firsts_in_bounds { offset (walk_of walked.now) (length walked.now.firsts.now - 1) ≤ length values.now }
+    requires n_bound { (walked.now.n ≤ 32768) × (q < walked.now.n) }
+    ensures { result.now ≡ values_in (walk_of walked.now) values.now q }
 {
-    let k = owner(firsts, q);
-    let c = q - firsts[k];
-    let m = starts[k + 1] - starts[k];
-    let off = offset(n, firsts, starts, rows, k);
+    let k = owner(walked.firsts, q);
+    let c = q - walked.firsts[k];
+    let m = walked.starts[k + 1] - walked.starts[k];
+    let off = offset(walked, k);
     panel_column(&values[off..], m, c)
 }
 
@@ -128,22 +100,26 @@ pub fn column<'a>(
 ) -> &'a [f64]
     ensures { Views «record» (record { permutation = permutation.entry.now; firsts = firsts.now; starts = starts.now; rows = rows.now; values = values.now }) q result.now }
 {
-    if !viewable(record, permutation, firsts, starts, rows, values) {
-        return &values[0..0];
-    }
-    let n = record.n;
-    let at = q.0;
-    if at >= n {
-        return &values[0..0];
-    }
-    let many = record.supernodes + 1;
-    let total = record.rows;
-    column_part(
-        n,
-        &firsts[..many],
-        &starts[..many],
-        &rows[..total],
+    let factor = Factor {
+        permutation,
+        firsts,
+        starts,
+        rows,
         values,
-        at,
-    )
+    };
+    if !viewable(record, &factor) {
+        return &values[0..0];
+    }
+    let at = q.0;
+    if at >= record.n {
+        return &values[0..0];
+    }
+    let own = cut(record, &factor);
+    let walked = Walked {
+        n: own.n,
+        firsts: own.firsts,
+        starts: own.starts,
+        rows: own.rows,
+    };
+    column_part(&walked, values, at)
 }

@@ -4,16 +4,15 @@ use mathlib.Core.List.{List, append-nil}
 use Prim.Native.Nat.{ℕ, suc, ◌+◌, ◌<◌, ◌≤◌}
 use native.Mathlib.Omega.{arith}
 use native.Mathlib.Decide.{ℕ_discrete}
-use native.Mathlib.Numerals.{add-one}
 use lib.ListN.{length, get_or, set, length-set}
 use lib.Seq.{drop-length, get_or-set_same, get_or-set_other, ext_get_or}
 use lib.Ieee.{Float, nan}
 use Rattle.statement.specs.Lists.{list, place}
 use Rattle.statement.specs.Input.{+0}
-use Rattle.statement.specs.Shape.{offset}
+use Rattle.statement.specs.Shape.{Shape, supernodes, offset}
 use Rattle.statement.specs.Solve.{forward, backward, solution}
-use Rattle.laws.specs.Lent.{laid}
 use Rattle.laws.proofs.Permuted.{Permuted}
+use Rattle.laws.proofs.Stretches.{offset_mono}
 use Rattle.laws.proofs.Ranks.{list_length, list_at}
 use Rattle.areas.proofs.Front.{Front, front_over}
 use Rattle.areas.proofs.Lists.{get_d_any}
@@ -54,27 +53,14 @@ module _ {q : List ℕ} {x b₀ b : List Float} {a : ℕ} (w : Back q x b₀ b a
   back_over h = ext_get_or +0 b (list (λ k. get_or x (place k q) +0) (length x)) (w.long ∙ e ∙ sym (list_length (λ k. get_or x (place k q) +0) (length x)))
       (λ k l. let z : k < length x = omega (arith, w.long) in w.is k z (omega (arith, p.inside k z)) ∙ sym (list_at (λ k. get_or x (place k q) +0) (length x) k +0 z))
 
--- ---- over lists that are as long as others
+-- ---- the passes
 
-module _ (F S R : List ℕ) where
-  pub offset_again : (m n k j r : ℕ) → m ≡ n → k ≡ j → r ≡ offset (laid m F S R) k → r ≡ offset (laid n F S R) j
-  offset_again m n k j r e d h = rw (← e, ← d) h
+-- supernode k's values stand in the lent ones
+pub stretch_in : {S : Shape} {q : List ℕ} {v : List Float} {entries : ℕ} → Solving S q v entries → (k : ℕ) → k < supernodes S → offset S (suc k) ≤ length v
+stretch_in {S} s k h = omega (arith, s.sized, s.room, offset_mono S (supernodes S) (suc k) h)
 
-  module _ (v : List Float) where
-    -- one supernode more
-    pub forward_again : (m n k : ℕ) (x₀ x y : List Float) → m ≡ n → x ≡ forward (laid n F S R) v x₀ (get_or F k 0)
-        → ((z : List Float) → x ≡ forward (laid m F S R) v z (get_or F k 0) → y ≡ forward (laid m F S R) v z (get_or F (suc k) 0)) → y ≡ forward (laid n F S R) v x₀ (get_or F (k + 1) 0)
-    forward_again m n k x₀ x y e g h = rw add-one (rw e at (h x₀ (rw e g)))
-
-    pub backward_again : (m n k d : ℕ) (x₀ x y : List Float) → m ≡ n → k ≡ d + 1 → backward (laid n F S R) v x₀ n ≡ backward (laid n F S R) v x (get_or F k 0)
-        → backward (laid m F S R) v x (get_or F (suc d) 0) ≡ backward (laid m F S R) v y (get_or F d 0) → backward (laid n F S R) v x₀ n ≡ backward (laid n F S R) v y (get_or F d 0)
-    backward_again m n k d x₀ x y e c g h = g ∙ ap (λ i. backward (laid n F S R) v x (get_or F i 0)) (c ∙ add-one d) ∙ (rw e at h)
-
-    -- gather, forward, backward, scatter
-    pub passes : (q : List ℕ) (b : List Float) (n i j k : ℕ) (x y z r : List Float) → i ≡ n → j ≡ n → k ≡ n → x ≡ list (λ a. get_or b (get_or q a 0) +0) n
-        → y ≡ forward (laid i F S R) v x i → z ≡ backward (laid j F S R) v y j → r ≡ list (λ c. get_or z (place c q) +0) k → r ≡ solution n q (laid n F S R) v b
-    unfolding solution
-    passes q b n i j k x y z r e₁ e₂ e₃ h₁ h₂ h₃ h = h ∙ rw (e₃, h₃, e₂, h₂, e₁, h₁)
-
-  pub solving_at : (q : List ℕ) (v : List Float) (entries m n : ℕ) → m ≡ n → Solving (laid n F S R) q v entries → Solving (laid m F S R) q v entries
-  solving_at q v entries m n e h = rw e h
+-- gather, forward, backward, scatter
+pub passes : (S : Shape) (v : List Float) (q : List ℕ) (b : List Float) (n k : ℕ) (x y z r : List Float) → k ≡ n → x ≡ list (λ a. get_or b (get_or q a 0) +0) k
+    → y ≡ forward S v x n → z ≡ backward S v y n → r ≡ list (λ c. get_or z (place c q) +0) k → r ≡ solution n q S v b
+unfolding solution
+passes S v q b n k x y z r e h₁ h₂ h₃ h = h ∙ rw (h₃, h₂, h₁, e)

@@ -5,13 +5,15 @@ ghost use Rattle.std.specs.Prelude.{◌≡◌, true, List, ℕ, suc, ◌+◌, �
 ghost use Rattle.statement.specs.Lists.{place, list, rising};
 ghost use Rattle.statement.specs.Input.{+0};
 ghost use Rattle.statement.specs.Shape.{Shape, offset};
-ghost use Rattle.statement.specs.Solve.{shape_in, permutes, solvable, rows_in, values_in, less_below, less_above, forward_at, forward, backward_at, backward, solution};
-ghost use Rattle.laws.specs.Lent.{lent, laid};
-ghost use Rattle.solving.specs.Walk.{Rising, is_run, Column, Block, Walked, Supernode, Solving};
+ghost use Rattle.statement.specs.Solve.{permutes, rows_in, values_in, less_below, less_above, forward_at, forward, backward_at, backward, solution};
+ghost use Rattle.solving.specs.Walk.{Rising, is_run, Column, Block, Supernode};
+ghost use Rattle.solving.specs.Shown.{shape_of};
+
+pub mod full;
 
 use forward_four::forward4;
+pub use full::Full;
 use panel::{column_start, panel_column};
-use statement::Record;
 
 // x, less the value times y at each row.
 fn subtract(rows: &[usize], values: &[f64], y: f64, x: &mut [f64])
@@ -19,11 +21,9 @@ fn subtract(rows: &[usize], values: &[f64], y: f64, x: &mut [f64])
     requires by_index { (i : ℕ) → i < length rows.now → get_or rows.now i 0 < length x.old }
     ensures { x.new ≡ less_below x.old y rows.now values.now }
 {
-    let mut i: usize = 0;
-    while i < rows.len() {
+    for i in 0..rows.len() {
         let r = rows[i];
         x[r] = x[r] - values[i] * y;
-        i += 1;
     }
 }
 
@@ -34,24 +34,21 @@ fn reduce(rows: &[usize], values: &[f64], z: f64, x: &[f64]) -> f64
     ensures { result ≡ less_above z x.now rows.now values.now }
 {
     let mut t = z;
-    let mut i: usize = 0;
-    while i < rows.len() {
+    for i in 0..rows.len() {
         let row = rows[i];
         t = t - values[i] * x[row];
-        i += 1;
     }
     t
 }
 
+// Not one function with `subtract` (nor `reduce_run` with `reduce`) over a closure for the row: a run reads no rows, and the closure with its clauses is longer than this loop.
 // x, less the value times y at each of the places from `at`.
 fn subtract_run(at: usize, values: &[f64], y: f64, x: &mut [f64])
     requires { at + length values.now ≤ length x.old }
     ensures { x.new ≡ less_below x.old y (rising at (length values.now)) values.now }
 {
-    let mut i: usize = 0;
-    while i < values.len() {
+    for i in 0..values.len() {
         x[at + i] = x[at + i] - values[i] * y;
-        i += 1;
     }
 }
 
@@ -61,10 +58,8 @@ fn reduce_run(at: usize, values: &[f64], z: f64, x: &[f64]) -> f64
     ensures { result ≡ less_above z x.now (rising at (length values.now)) values.now }
 {
     let mut t = z;
-    let mut i: usize = 0;
-    while i < values.len() {
+    for i in 0..values.len() {
         t = t - values[i] * x[at + i];
-        i += 1;
     }
     t
 }
@@ -115,6 +110,7 @@ fn backward_column(rows: &[usize], values: &[f64], q: usize, x: &mut [f64])
     x[q] = z / d;
 }
 
+// The parameters of a block stay single: Block speaks of the length of x too, so a struct of them would carry n beside them, and each call would say that x is n long.
 // A supernode's first columns from f, by fours, where all its rows follow each other. How many they are.
 fn forward_fours(rows: &[usize], values: &[f64], f: usize, w: usize, x: &mut [f64]) -> usize
     requires { Block rows.now values.now f w (length x.old) }
@@ -125,6 +121,7 @@ fn forward_fours(rows: &[usize], values: &[f64], f: usize, w: usize, x: &mut [f6
         return 0;
     }
     let m = rows.len();
+    // c counts by four and is what is returned: a range of the fours would have to be taken times four at each use
     let mut c: usize = 0;
     while c + 4 <= w {
         forward4(
@@ -146,10 +143,9 @@ fn forward_columns(rows: &[usize], values: &[f64], f: usize, w: usize, x: &mut [
     ensures { (S : Shape) (K : ℕ) (v x₀ : List Float) → Supernode S K v rows.now values.now f w → x.old ≡ forward S v x₀ f → x.new ≡ forward S v x₀ (f + w) }
 {
     let m = rows.len();
-    let mut c = forward_fours(rows, values, f, w, x);
-    while c < w {
+    let done = forward_fours(rows, values, f, w, x);
+    for c in done..w {
         forward_column(&rows[c..], panel_column(values, m, c), f + c, x);
-        c += 1;
     }
 }
 
@@ -159,97 +155,64 @@ fn backward_columns(rows: &[usize], values: &[f64], f: usize, w: usize, x: &mut 
     ensures { (S : Shape) (K : ℕ) (v : List Float) → Supernode S K v rows.now values.now f w → backward S v x.old (f + w) ≡ backward S v x.new f }
 {
     let m = rows.len();
-    let mut c = w;
-    while c > 0 {
-        c -= 1;
+    for c in (0..w).rev() {
         backward_column(&rows[c..], panel_column(values, m, c), f + c, x);
     }
 }
 
 // Supernode k, rising. Returns where the next one's values start.
-fn forward_supernode(
-    firsts: &[usize],
-    starts: &[usize],
-    rows: &[usize],
-    values: &[f64],
-    k: usize,
-    off: usize,
-    x: &mut [f64],
-) -> usize
-    requires walked { Walked (laid (length x.old) firsts.now starts.now rows.now) }
-    requires k_in_bounds { k < length firsts.now - 1 }
-    requires off_value { off ≡ offset (laid (length x.old) firsts.now starts.now rows.now) k }
-    requires k_in_bounds_2 { (offset (laid (length x.old) firsts.now starts.now rows.now) (suc k) ≤ length values.now) × (length x.old ≤ 32768) }
-    ensures value { result ≡ offset (laid (length x.old) firsts.now starts.now rows.now) (suc k) }
-    ensures x_after { (x₀ : List Float) → x.old ≡ forward (laid (length x.old) firsts.now starts.now rows.now) values.now x₀ (get_or firsts.now k 0) → x.new ≡ forward (laid (length x.old) firsts.now starts.now rows.now) values.now x₀ (get_or firsts.now (suc k) 0) }
+fn forward_supernode(factor: &Full<'_>, k: usize, off: usize, x: &mut [f64]) -> usize
+    requires k_in_bounds { k < length factor.now.firsts.now - 1 }
+    requires off_value { off ≡ offset (shape_of factor.now) k }
+    requires x_len { length x.old ≡ factor.now.n }
+    ensures value { result ≡ offset (shape_of factor.now) (suc k) }
+    ensures x_after { (x₀ : List Float) → x.old ≡ forward (shape_of factor.now) factor.now.values.now x₀ (get_or factor.now.firsts.now k 0) → x.new ≡ forward (shape_of factor.now) factor.now.values.now x₀ (get_or factor.now.firsts.now (suc k) 0) }
 {
-    let f = firsts[k];
-    let w = firsts[k + 1] - f;
-    let s = starts[k];
-    let e = starts[k + 1];
-    forward_columns(&rows[s..e], &values[off..], f, w, x);
+    let f = factor.firsts[k];
+    let w = factor.firsts[k + 1] - f;
+    let s = factor.starts[k];
+    let e = factor.starts[k + 1];
+    forward_columns(&factor.rows[s..e], &factor.values[off..], f, w, x);
     off + column_start(e - s, w)
 }
 
+// Not one function with the rising one: each has its own end of the stretch given and asks for the other, and each promises its own pass.
 // Supernode k, falling. Returns where its values start.
-fn backward_supernode(
-    firsts: &[usize],
-    starts: &[usize],
-    rows: &[usize],
-    values: &[f64],
-    k: usize,
-    end: usize,
-    x: &mut [f64],
-) -> usize
-    requires walked { Walked (laid (length x.old) firsts.now starts.now rows.now) }
-    requires k_in_bounds { k < length firsts.now - 1 }
-    requires end_value { end ≡ offset (laid (length x.old) firsts.now starts.now rows.now) (suc k) }
-    requires end_in_bounds { (end ≤ length values.now) × (length x.old ≤ 32768) }
-    ensures value { result ≡ offset (laid (length x.old) firsts.now starts.now rows.now) k }
-    ensures k_value { backward (laid (length x.old) firsts.now starts.now rows.now) values.now x.old (get_or firsts.now (suc k) 0) ≡ backward (laid (length x.old) firsts.now starts.now rows.now) values.now x.new (get_or firsts.now k 0) }
+fn backward_supernode(factor: &Full<'_>, k: usize, end: usize, x: &mut [f64]) -> usize
+    requires k_in_bounds { k < length factor.now.firsts.now - 1 }
+    requires end_value { end ≡ offset (shape_of factor.now) (suc k) }
+    requires x_len { length x.old ≡ factor.now.n }
+    ensures value { result ≡ offset (shape_of factor.now) k }
+    ensures k_value { backward (shape_of factor.now) factor.now.values.now x.old (get_or factor.now.firsts.now (suc k) 0) ≡ backward (shape_of factor.now) factor.now.values.now x.new (get_or factor.now.firsts.now k 0) }
 {
-    let f = firsts[k];
-    let w = firsts[k + 1] - f;
-    let s = starts[k];
-    let e = starts[k + 1];
+    let f = factor.firsts[k];
+    let w = factor.firsts[k + 1] - f;
+    let s = factor.starts[k];
+    let e = factor.starts[k + 1];
     let off = end - column_start(e - s, w);
-    backward_columns(&rows[s..e], &values[off..], f, w, x);
+    backward_columns(&factor.rows[s..e], &factor.values[off..], f, w, x);
     off
 }
 
 // All columns, rising.
-fn forward(firsts: &[usize], starts: &[usize], rows: &[usize], values: &[f64], x: &mut [f64])
-    requires walked { Walked (laid (length x.old) firsts.now starts.now rows.now) }
-    requires firsts_in_bounds { (offset (laid (length x.old) firsts.now starts.now rows.now) (length firsts.now - 1) ≤ length values.now) × (length x.old ≤ 32768) }
-    ensures { x.new ≡ forward (laid (length x.old) firsts.now starts.now rows.now) values.now x.old (length x.old) }
+fn forward(factor: &Full<'_>, x: &mut [f64])
+    requires { length x.old ≡ factor.now.n }
+    ensures { x.new ≡ forward (shape_of factor.now) factor.now.values.now x.old factor.now.n }
 {
     let mut off: usize = 0;
-    let mut k: usize = 0;
-    while k + 1 < firsts.len() {
-        off = forward_supernode(firsts, starts, rows, values, k, off, x);
-        k += 1;
+    for k in 0..factor.firsts.len() - 1 {
+        off = forward_supernode(factor, k, off, x);
     }
 }
 
 // All columns, falling: their values end at `entries`.
-fn backward(
-    firsts: &[usize],
-    starts: &[usize],
-    rows: &[usize],
-    values: &[f64],
-    entries: usize,
-    x: &mut [f64],
-)
-    requires walked { Walked (laid (length x.old) firsts.now starts.now rows.now) }
-    requires entries_value { entries ≡ offset (laid (length x.old) firsts.now starts.now rows.now) (length firsts.now - 1) }
-    requires entries_in_bounds { (entries ≤ length values.now) × (length x.old ≤ 32768) }
-    ensures { x.new ≡ backward (laid (length x.old) firsts.now starts.now rows.now) values.now x.old (length x.old) }
+fn backward(factor: &Full<'_>, x: &mut [f64])
+    requires { length x.old ≡ factor.now.n }
+    ensures { x.new ≡ backward (shape_of factor.now) factor.now.values.now x.old factor.now.n }
 {
-    let mut end = entries;
-    let mut k = firsts.len() - 1;
-    while k > 0 {
-        k -= 1;
-        end = backward_supernode(firsts, starts, rows, values, k, end, x);
+    let mut end = factor.entries;
+    for k in (0..factor.firsts.len() - 1).rev() {
+        end = backward_supernode(factor, k, end, x);
     }
 }
 
@@ -259,11 +222,9 @@ fn gather(permutation: &[usize], b: &[f64], x: &mut [f64])
     requires by_index { (a : ℕ) → a < length x.old → get_or permutation.now a 0 < length b.now }
     ensures { x.new ≡ list (λ a. get_or b.now (get_or permutation.now a 0) +0) (length x.old) }
 {
-    let mut a: usize = 0;
-    while a < x.len() {
+    for a in 0..x.len() {
         let k = permutation[a];
         x[a] = b[k];
-        a += 1;
     }
 }
 
@@ -273,31 +234,20 @@ fn scatter(permutation: &[usize], x: &[f64], b: &mut [f64])
     requires permutation_value { permutes (length x.now) permutation.now ≡ true }
     ensures { b.new ≡ list (λ k. get_or x.now (place k permutation.now) +0) (length x.now) }
 {
-    let mut q: usize = 0;
-    while q < x.len() {
+    for q in 0..x.len() {
         let k = permutation[q];
         b[k] = x[q];
-        q += 1;
     }
 }
 
-// b becomes the solution, over lists as long as they should be.
-pub fn solve_one(
-    permutation: &[usize],
-    firsts: &[usize],
-    starts: &[usize],
-    rows: &[usize],
-    values: &[f64],
-    entries: usize,
-    x: &mut [f64],
-    b: &mut [f64],
-)
-    requires solving { Solving (laid (length x.old) firsts.now starts.now rows.now) permutation.now values.now entries }
-    requires b_len { length b.old ≡ length x.old }
-    ensures { b.new ≡ solution (length x.old) permutation.now (laid (length x.old) firsts.now starts.now rows.now) values.now b.old }
+// b becomes the solution, with x as the room for the unknowns.
+pub fn solve_one(factor: &Full<'_>, x: &mut [f64], b: &mut [f64])
+    requires x_len { length x.old ≡ factor.now.n }
+    requires b_len { length b.old ≡ factor.now.n }
+    ensures { b.new ≡ solution factor.now.n factor.now.permutation.now (shape_of factor.now) factor.now.values.now b.old }
 {
-    gather(permutation, &b[..], x);
-    forward(firsts, starts, rows, values, x);
-    backward(firsts, starts, rows, values, entries, x);
-    scatter(permutation, &x[..], b);
+    gather(factor.permutation, &b[..], x);
+    forward(factor, x);
+    backward(factor, x);
+    scatter(factor.permutation, &x[..], b);
 }

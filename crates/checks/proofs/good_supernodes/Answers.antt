@@ -1,8 +1,6 @@
 use mathlib.Core.Path.{refl, sym, ◌∙◌}
-use Prim.Native.Nat.{◌+◌, ◌-◌}
 use native.Mathlib.Numerals.{add-one}
 use native.Mathlib.Omega.{arith}
-use Rattle.statement.specs.Solve.{good_supernode}
 use Rattle.laws.proofs.Every.{tested_start, tested_more, tested_stop, tested_over}
 use Rattle.laws.proofs.Walked.{node}
 use Rattle.checks.proofs.good_supernodes.Goals as goal
@@ -16,28 +14,8 @@ overflow_sub-w c =
     let loop' = c.loop-k in
     omega (arith, (node _ (pre') loop'.k (omega arith)).right)
 
-pub offset_bounds-starts-k : goal.offset_bounds-starts-k
-offset_bounds-starts-k c =
-    let pre' = c.requires in
-    omega (arith, pre'.long)
-
-pub bounds-starts-k : goal.bounds-starts-k
-bounds-starts-k c =
-    let pre' = c.requires in
-    omega (arith, pre'.long)
-
-pub offset_bounds-starts-k-in-loop-k : goal.offset_bounds-starts-k-in-loop-k
-offset_bounds-starts-k-in-loop-k c =
-    let pre' = c.requires in
-    omega (arith, pre'.long)
-
-pub bounds-starts-k-in-loop-k : goal.bounds-starts-k-in-loop-k
-bounds-starts-k-in-loop-k c =
-    let pre' = c.requires in
-    omega (arith, pre'.long)
-
-pub offset_bounds-rows-s : goal.offset_bounds-rows-s
-offset_bounds-rows-s c =
+pub offset_bounds-structure-s : goal.offset_bounds-structure-s
+offset_bounds-structure-s c =
     let pre' = c.requires in
     let loop' = c.loop-k in
     omega (arith, (node _ (pre') loop'.k (omega arith)).inside, (node _ (pre') loop'.k (omega arith)).down)
@@ -61,11 +39,7 @@ slice_bounds-good_supernode-end c =
     omega (arith, (node _ (pre') loop'.k (omega arith)).inside)
 
 pub good_supernode-requires : goal.good_supernode-requires
-good_supernode-requires c =
-    let pre' = c.requires in
-    let loop' = c.loop-k in
-    let shared-slice-known5' = c.shared_slice_known-in-loop-k-2-1 in
-    omega (arith, (node _ (pre') loop'.k (omega arith)).right, shared-slice-known5'.given (loop'.k + 1))
+good_supernode-requires c = let n = node _ c.requires c.loop-k.k (omega arith) in let h = c.type_inv.structure in omega (arith, n.right, n.cols, h.0)
 
 pub returns-then-not-good_supernode : goal.returns-then-not-good_supernode
 returns-then-not-good_supernode c =

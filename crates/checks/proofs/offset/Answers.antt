@@ -15,60 +15,40 @@ pub overflow_sub-w : goal.overflow_sub-w
 overflow_sub-w c =
     let pre' = c.requires in
     let loop' = c.loop-j in
-    omega (arith, (whole _ pre'.walkable loop'.j (omega arith)).node.right)
-
-pub offset_bounds-starts-j : goal.offset_bounds-starts-j
-offset_bounds-starts-j c =
-    let pre' = c.requires in
-    omega (arith, pre'.walkable.framed.long)
-
-pub bounds-starts-j : goal.bounds-starts-j
-bounds-starts-j c =
-    let pre' = c.requires in
-    omega (arith, pre'.walkable.framed.long)
-
-pub offset_bounds-starts-j-in-loop-j : goal.offset_bounds-starts-j-in-loop-j
-offset_bounds-starts-j-in-loop-j c =
-    let pre' = c.requires in
-    omega (arith, pre'.walkable.framed.long)
-
-pub bounds-starts-j-in-loop-j : goal.bounds-starts-j-in-loop-j
-bounds-starts-j-in-loop-j c =
-    let pre' = c.requires in
-    omega (arith, pre'.walkable.framed.long)
+    omega (arith, (whole _ c.args.walked.now.valid loop'.j (omega arith)).node.right)
 
 pub overflow_sub-m : goal.overflow_sub-m
 overflow_sub-m c =
     let pre' = c.requires in
     let loop' = c.loop-j in
-    omega (arith, (whole _ pre'.walkable loop'.j (omega arith)).node.down)
+    omega (arith, (whole _ c.args.walked.now.valid loop'.j (omega arith)).node.down)
 
 pub column_start-sum-requires : goal.column_start-sum-requires
 column_start-sum-requires c =
     let pre' = c.requires in
     let loop' = c.loop-j in
-    let p = whole _ pre'.walkable loop'.j (omega arith) in
-    (p.wide, omega (arith, p.few, pre'.n_bound.0))
+    let p = whole _ c.args.walked.now.valid loop'.j (omega arith) in
+    (p.wide, omega (arith, p.few, pre'.0))
 
 pub overflow_add-sum : goal.overflow_add-sum
 overflow_add-sum c =
     let pre' = c.requires in
     let loop' = c.loop-j in
     let args' = c.args in
-    let p = whole _ pre'.walkable loop'.j (omega arith) in
-    let m = get_or args'.starts.now (loop'.j + 1) 0 - get_or args'.starts.now loop'.j 0 in
-    let w = get_or args'.firsts.now (loop'.j + 1) 0 - get_or args'.firsts.now loop'.j 0 in
-    omega (arith, trapezoid_bound m w (omega (arith, p.few, pre'.n_bound.0)), p.node.right, p.node.cols, pre'.n_bound.0)
+    let p = whole _ c.args.walked.now.valid loop'.j (omega arith) in
+    let m = get_or args'.walked.now.starts.now (loop'.j + 1) 0 - get_or args'.walked.now.starts.now loop'.j 0 in
+    let w = get_or args'.walked.now.firsts.now (loop'.j + 1) 0 - get_or args'.walked.now.firsts.now loop'.j 0 in
+    omega (arith, trapezoid_bound m w (omega (arith, p.few, pre'.0)), p.node.right, p.node.cols, pre'.0)
 
 pub loop-j-preserved : goal.loop-j-preserved
 loop-j-preserved c =
     let pre' = c.requires in
     let loop' = c.loop-j in
     let args' = c.args in
-    let p = whole _ pre'.walkable loop'.j (omega arith) in
-    let m = get_or args'.starts.now (loop'.j + 1) 0 - get_or args'.starts.now loop'.j 0 in
-    let w = get_or args'.firsts.now (loop'.j + 1) 0 - get_or args'.firsts.now loop'.j 0 in
-    (omega arith, omega (arith, p.node.next), omega (arith, trapezoid_bound m w (omega (arith, p.few, pre'.n_bound.0)), p.node.right, p.node.cols, pre'.n_bound.0))
+    let p = whole _ c.args.walked.now.valid loop'.j (omega arith) in
+    let m = get_or args'.walked.now.starts.now (loop'.j + 1) 0 - get_or args'.walked.now.starts.now loop'.j 0 in
+    let w = get_or args'.walked.now.firsts.now (loop'.j + 1) 0 - get_or args'.walked.now.firsts.now loop'.j 0 in
+    (omega arith, omega (arith, p.node.next), omega (arith, trapezoid_bound m w (omega (arith, p.few, pre'.0)), p.node.right, p.node.cols, pre'.0))
 
 pub returns : goal.returns
 returns c =

@@ -1,13 +1,10 @@
 -- `checks::offset` meets its contract: the supernodes passed are added up, at most 32,768 for each of their columns. Assumes nothing.
 use mathlib.Core.Path.{◌≡◌}
-use Prim.Native.Nat.{◌-◌, ◌*◌, ◌≤◌}
+use Prim.Native.Nat.{◌*◌, ◌≤◌}
 use lib.ListN.{get_or}
 use Rattle.statement.specs.Shape.{offset}
-use Rattle.laws.specs.Lent.{laid}
+use Rattle.checks.specs.Shown.{walk_of}
 use Rattle.checks.proofs.offset.Given as goal
 
 abbrev pub invariant-loop-j : goal.invariant-loop-j
-invariant-loop-j l = (l.j ≤ l.k) × (l.sum ≡ offset (laid l.n l.firsts l.starts l.rows) l.j) × (l.sum ≤ 32768 * get_or l.firsts l.j 0)
-
-abbrev pub decreases-loop-j : goal.decreases-loop-j
-decreases-loop-j l = l.k - l.j
+invariant-loop-j l = (l.j ≤ l.k) × (l.sum ≡ offset (walk_of l.walked) l.j) × (l.sum ≤ 32768 * get_or l.walked.firsts.now l.j 0)

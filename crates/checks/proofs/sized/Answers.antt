@@ -1,14 +1,11 @@
--- `checks::sized` meets its contract. Assumes nothing.
+-- `checks::sized` meets its contract: the offset past the last supernode. Assumes nothing.
 use native.Mathlib.Omega.{arith}
 use Rattle.statement.specs.Solve.{sized}
 use Rattle.checks.proofs.sized.Goals as goal
 
 pub offset-requires : goal.offset-requires
-offset-requires c =
-    let pre' = c.requires in record { walkable = pre'.walkable; n_bound = (pre'.record_bound.0, omega (arith, pre'.record_bound.1)) }
+offset-requires c = (c.requires.0, omega (arith, c.requires.1))
 
 pub returns : goal.returns
 unfolding sized
-returns c =
-    let offset' = c.offset in
-    rw offset'.ensures
+returns c = rw c.offset.ensures

@@ -1,23 +1,12 @@
-use Prim.Native.Nat.{◌-◌}
-use native.Mathlib.Omega.{arith}
-use borrow.Author.Tests.{lt-ltb, le-ltb}
-use Rattle.laws.proofs.Every.{tested_start, tested_more, tested_stop, tested_over}
+-- `factor_lists::all_below` meets its contract: the chain's answer, place by place. Assumes nothing.
+use Rattle.std.proofs.Common.{rules, ltb, ◌∙◌}
+use Rattle.std.proofs.lemmas.Iterator.{YieldsList-from_slice}
+use Rattle.std.proofs.lemmas.Iterator.Search.{all_from_yields_List}
+use borrow.Author.Tests.{tests}
+use Rattle.factor_lists.proofs.Chains.{every_of}
 use Rattle.factor_lists.proofs.all_below.Goals as goal
-
-pub loop-i-init : goal.loop-i-init
-loop-i-init c = tested_start _ _
-
-pub returns-then-l-i : goal.returns-then-l-i
-returns-then-l-i c =
-    let loop' = c.loop-i in
-    tested_stop loop'.invariant (omega arith) (le-ltb _ _ c.if-l-i.true)
-
-pub loop-i-preserved : goal.loop-i-preserved
-loop-i-preserved c =
-    let loop' = c.loop-i in
-    tested_more loop'.invariant (omega arith) (lt-ltb _ _ c.if-l-i.false)
 
 pub returns : goal.returns
 returns c =
-    let loop' = c.loop-i in
-    tested_over loop'.invariant (omega arith)
+    let a = c.args in
+    all_from_yields_List (λ x. ltb x a.n) _ _ _ c.all.ensures.ran (YieldsList-from_slice a.l.now cc) (λ x b q k. search (rules, tests)) ∙ every_of (λ x. ltb x a.n) 0 a.l.now

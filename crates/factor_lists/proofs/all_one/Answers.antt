@@ -1,23 +1,12 @@
-use Prim.Native.Nat.{◌-◌}
-use native.Mathlib.Omega.{arith}
-use borrow.Author.Tests.{eq-eqb, ne_eqb}
-use Rattle.laws.proofs.Every.{tested_start, tested_more, tested_stop, tested_over}
+-- `factor_lists::all_one` meets its contract: the chain's answer, place by place. Assumes nothing.
+use Rattle.std.proofs.Common.{rules, eqb, take, ◌∙◌}
+use Rattle.std.proofs.lemmas.Iterator.{YieldsList-from_slice}
+use Rattle.std.proofs.lemmas.Iterator.Search.{all_from_yields_List}
+use borrow.Author.Tests.{tests}
+use Rattle.factor_lists.proofs.Chains.{every_first}
 use Rattle.factor_lists.proofs.all_one.Goals as goal
-
-pub loop-i-init : goal.loop-i-init
-loop-i-init c = tested_start _ _
-
-pub returns-then-l-i-ne1 : goal.returns-then-l-i-ne1
-returns-then-l-i-ne1 c =
-    let loop' = c.loop-i in
-    tested_stop loop'.invariant (omega arith) (ne_eqb _ _ c.if-l-i-ne1.true)
-
-pub loop-i-preserved : goal.loop-i-preserved
-loop-i-preserved c =
-    let loop' = c.loop-i in
-    tested_more loop'.invariant (omega arith) (eq-eqb _ _ c.if-l-i-ne1.false)
 
 pub returns : goal.returns
 returns c =
-    let loop' = c.loop-i in
-    tested_over loop'.invariant (omega arith)
+    let a = c.args in
+    all_from_yields_List (λ x. eqb x 1) _ _ _ c.all.ensures.ran (YieldsList-from_slice (take a.n a.l.now) cc) (λ x b q k. search (rules, tests)) ∙ every_first (λ x. eqb x 1) 0 a.l.now a.n c.requires

@@ -7,6 +7,3 @@ use Rattle.factor_lists.proofs.all_rising.Given as goal
 
 abbrev pub invariant-loop-i : goal.invariant-loop-i
 invariant-loop-i l = Tested (λ x. ltb (get_or l.l x 0) (get_or l.l (suc x) 0)) (length l.l - 1) l.i
-
-abbrev pub decreases-loop-i : goal.decreases-loop-i
-decreases-loop-i l = length l.l - l.i

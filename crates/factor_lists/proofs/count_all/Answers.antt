@@ -1,5 +1,4 @@
 use mathlib.Core.Path.{◌≡◌, refl}
-use Prim.Native.Nat.{◌-◌}
 use native.Mathlib.Omega.{arith}
 use lib.Dec.{eqb}
 use lib.ListN.{get_or, length-set}
@@ -31,12 +30,6 @@ overflow_add-words c =
     let pre' = c.requires in
     let v = get_or args'.p.now loop'.k 0 in
     omega (arith, loop'.invariant.2 v (pre'.by_index_2 loop'.k (omega arith)), count_to (λ a. eqb (get_or args'.p.now a 0) v) loop'.k)
-
-pub offset_bounds-words-v-in-loop-k : goal.offset_bounds-words-v-in-loop-k
-offset_bounds-words-v-in-loop-k c =
-    let pre' = c.requires in
-    let loop' = c.loop-k in
-    omega (arith, pre'.by_index_2 loop'.k (omega arith))
 
 pub bounds-words-v-in-loop-k : goal.bounds-words-v-in-loop-k
 bounds-words-v-in-loop-k c =

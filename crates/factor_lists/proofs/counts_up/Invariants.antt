@@ -1,5 +1,5 @@
 -- `factor_lists::counts_up` meets its contract: those passed count up. Assumes nothing.
-use Prim.Native.Nat.{◌+◌, ◌-◌}
+use Prim.Native.Nat.{◌+◌}
 use lib.Dec.{eqb}
 use lib.ListN.{get_or}
 use Rattle.laws.proofs.Every.{Tested}
@@ -7,6 +7,3 @@ use Rattle.factor_lists.proofs.counts_up.Given as goal
 
 abbrev pub invariant-loop-c : goal.invariant-loop-c
 invariant-loop-c l = Tested (λ c. eqb (get_or l.l c 0) (l.f + c)) l.w l.c
-
-abbrev pub decreases-loop-c : goal.decreases-loop-c
-decreases-loop-c l = l.w - l.c

@@ -20,46 +20,46 @@ returns-then-record-gt32768 c =
     let if2' = c.if-record-gt32768 in
     rw (yes is-full'.ensures if1'.false, lt-leb _ _ if2'.true)
 
-pub returns-then-permutation-record : goal.returns-then-permutation-record
+pub returns-then-factor-record : goal.returns-then-factor-record
 unfolding full_record
-returns-then-permutation-record c =
+returns-then-factor-record c =
     let is-full' = c.is_full in
     let if1' = c.if-not-is_full in
     let if2' = c.if-record-gt32768 in
-    let if3' = c.if-permutation-record in
+    let if3' = c.if-factor-record in
     rw (yes is-full'.ensures if1'.false, le-leb _ _ if2'.false, lt-leb _ _ if3'.true)
 
-pub returns-then-firsts-record : goal.returns-then-firsts-record
+pub returns-then-factor-record-2 : goal.returns-then-factor-record-2
 unfolding full_record
-returns-then-firsts-record c =
+returns-then-factor-record-2 c =
     let is-full' = c.is_full in
     let if1' = c.if-not-is_full in
     let if2' = c.if-record-gt32768 in
-    let if3' = c.if-permutation-record in
-    let if4' = c.if-firsts-record in
+    let if3' = c.if-factor-record in
+    let if4' = c.if-factor-record-2 in
     rw (yes is-full'.ensures if1'.false, le-leb _ _ if2'.false, le-leb _ _ if3'.false, lt-leb _ _ (le_more if4'.true))
 
-pub returns-then-starts-record : goal.returns-then-starts-record
+pub returns-then-factor-record-3 : goal.returns-then-factor-record-3
 unfolding full_record
-returns-then-starts-record c =
+returns-then-factor-record-3 c =
     let is-full' = c.is_full in
     let if1' = c.if-not-is_full in
     let if2' = c.if-record-gt32768 in
-    let if3' = c.if-permutation-record in
-    let if4' = c.if-firsts-record in
-    let if5' = c.if-starts-record in
+    let if3' = c.if-factor-record in
+    let if4' = c.if-factor-record-2 in
+    let if5' = c.if-factor-record-3 in
     rw (yes is-full'.ensures if1'.false, le-leb _ _ if2'.false, le-leb _ _ if3'.false, le-leb _ _ (lt_more if4'.false), lt-leb _ _ (le_more if5'.true))
 
-pub returns-then-rows-record : goal.returns-then-rows-record
+pub returns-then-factor-record-4 : goal.returns-then-factor-record-4
 unfolding full_record
-returns-then-rows-record c =
+returns-then-factor-record-4 c =
     let is-full' = c.is_full in
     let if1' = c.if-not-is_full in
     let if2' = c.if-record-gt32768 in
-    let if3' = c.if-permutation-record in
-    let if4' = c.if-firsts-record in
-    let if5' = c.if-starts-record in
-    let if6' = c.if-rows-record in
+    let if3' = c.if-factor-record in
+    let if4' = c.if-factor-record-2 in
+    let if5' = c.if-factor-record-3 in
+    let if6' = c.if-factor-record-4 in
     rw (yes is-full'.ensures if1'.false, le-leb _ _ if2'.false, le-leb _ _ if3'.false, le-leb _ _ (lt_more if4'.false), le-leb _ _ (lt_more if5'.false), lt-leb _ _ if6'.true)
 
 pub returns : goal.returns
@@ -68,8 +68,8 @@ returns c =
     let is-full' = c.is_full in
     let if1' = c.if-not-is_full in
     let if2' = c.if-record-gt32768 in
-    let if3' = c.if-permutation-record in
-    let if4' = c.if-firsts-record in
-    let if5' = c.if-starts-record in
-    let if6' = c.if-rows-record in
+    let if3' = c.if-factor-record in
+    let if4' = c.if-factor-record-2 in
+    let if5' = c.if-factor-record-3 in
+    let if6' = c.if-factor-record-4 in
     rw (yes is-full'.ensures if1'.false, le-leb _ _ if2'.false, le-leb _ _ if3'.false, le-leb _ _ (lt_more if4'.false), le-leb _ _ (lt_more if5'.false), le-leb _ _ if6'.false)

@@ -1,6 +1,7 @@
 -- `factor_lists::permutes` meets its contract: counted slowly, or in the words. Assumes nothing.
 use mathlib.Core.Path.{sym, ◌∙◌}
-use native.Mathlib.Omega.{arith}
+use Rattle.std.proofs.Common.{rules, ◌≡◌, List, ℕ, ◌++◌, drop, ap}
+use lib.ListN.{replicate}
 use lib.Seq.{length-take-le}
 use Rattle.factor_lists.proofs.Parts.{names_past, counted, zeros_first, low_of_lem}
 use Rattle.laws.proofs.Taken.{no, yes}
@@ -24,13 +25,14 @@ returns-then-not-all_below c =
     let if2' = c.if-not-all_below in
     sym (names_past args'.n args'.p.now (pre') (no all-below'.ensures if2'.true))
 
-pub count_all-requires : goal.count_all-requires
-count_all-requires c =
-    let pre' = c.requires in
-    let fill-part' = c.fill_part in
-    let args' = c.args in
-    let all-below' = c.all_below in
-    let if2' = c.if-not-all_below in record { n_in_bounds = (pre', omega (arith, fill-part'.auto.to)); by_index = zeros_first _ _ _ fill-part'.ensures; by_index_2 = low_of_lem _ _ (pre') (yes all-below'.ensures if2'.false) }
+pub count_all-requires-clause-by_index : goal.count_all-requires-clause-by_index
+count_all-requires-clause-by_index c =
+    let d = drop c.args.n c.args.words.now in
+    let e : c.fill.new.self ≡ replicate c.args.n 0 = search rules in
+    zeros_first c.args.n d _ (ap (λ (l : List ℕ). l ++ d) e)
+
+pub count_all-requires-clause-by_index_2 : goal.count_all-requires-clause-by_index_2
+count_all-requires-clause-by_index_2 c = low_of_lem _ _ c.requires (yes c.all_below.ensures c.if-not-all_below.false)
 
 pub returns : goal.returns
 returns c =

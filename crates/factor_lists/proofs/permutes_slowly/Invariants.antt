@@ -1,5 +1,4 @@
 -- `factor_lists::permutes_slowly` meets its contract: each number passed is named once. Assumes nothing.
-use Prim.Native.Nat.{◌-◌}
 use lib.Dec.{eqb}
 use lib.ListN.{get_or}
 use Rattle.statement.specs.Lists.{tally}
@@ -8,6 +7,3 @@ use Rattle.factor_lists.proofs.permutes_slowly.Given as goal
 
 abbrev pub invariant-loop-v : goal.invariant-loop-v
 invariant-loop-v l = Tested (λ k. eqb (tally (λ a. eqb (get_or l.p a 0) k) l.n) 1) l.n l.v
-
-abbrev pub decreases-loop-v : goal.decreases-loop-v
-decreases-loop-v l = l.n - l.v

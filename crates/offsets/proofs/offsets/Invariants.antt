@@ -5,6 +5,3 @@ use Rattle.offsets.proofs.offsets.Given as goal
 
 abbrev pub invariant-loop-k : goal.invariant-loop-k
 invariant-loop-k l = Placing l.firsts l.starts l.ns l.initial.to l.to l.at l.k
-
-abbrev pub decreases-loop-k : goal.decreases-loop-k
-decreases-loop-k l = l.ns - l.k

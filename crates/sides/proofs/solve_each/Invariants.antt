@@ -1,12 +1,12 @@
 -- `sides::solve_each` meets its contract: one right side after another. Assumes nothing.
-use Prim.Native.Nat.{◌-◌}
+use mathlib.Core.Path.{◌≡◌}
 use lib.ListN.{length}
-use Rattle.laws.specs.Lent.{laid}
-use Rattle.sides.proofs.Each.{Turn}
+use Rattle.solving.specs.Shown.{shape_of}
+use Rattle.sides.proofs.Each.{Each}
 use Rattle.sides.proofs.solve_each.Given as goal
 
 abbrev pub invariant-loop-j : goal.invariant-loop-j
-invariant-loop-j l = Turn (length l.initial.x) l.permutation (laid (length l.initial.x) l.firsts l.starts l.rows) l.values l.sides l.initial.b l.x l.b l.j
-
-abbrev pub decreases-loop-j : goal.decreases-loop-j
-decreases-loop-j l = l.sides - l.j
+invariant-loop-j l = record {
+  unknowns : length l.x ≡ l.factor.n;
+  done : Each l.factor.n l.factor.permutation.now (shape_of l.factor) l.factor.values.now l.sides l.initial.b l.b l.j;
+}

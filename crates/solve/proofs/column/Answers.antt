@@ -1,11 +1,9 @@
 -- `solve::column` meets its contract: the tests, then the part that is the column. Assumes nothing.
-use mathlib.Core.Path.{sym}
 use native.Mathlib.Omega.{arith}
-use lib.Seq.{length-take-le}
 use borrow.Author.Tests.{le-ltb}
 use Rattle.statement.specs.Solve.{view}
 use Rattle.laws.proofs.Taken.{no, yes}
-use Rattle.solve.proofs.Viewed.{seen, part_walkable, part_room, part_viewed}
+use Rattle.solve.proofs.Viewed.{seen, seen_room, seen_view}
 use Rattle.solve.proofs.column.Goals as goal
 
 pub returns-then-not-viewable : goal.returns-then-not-viewable
@@ -15,49 +13,26 @@ returns-then-not-viewable c =
     let if1' = c.if-not-viewable in
     rw (no viewable'.ensures if1'.true)
 
-pub returns-then-at-n : goal.returns-then-at-n
+pub returns-then-at-record : goal.returns-then-at-record
 unfolding view
-returns-then-at-n c =
+returns-then-at-record c =
     let viewable' = c.viewable in
     let if1' = c.if-not-viewable in
-    let if2' = c.if-at-n in
+    let if2' = c.if-at-record in
     rw (yes viewable'.ensures if1'.false, le-ltb _ _ if2'.true)
 
-pub overflow_add-many : goal.overflow_add-many
-overflow_add-many c =
-    let viewable' = c.viewable in
-    let if1' = c.if-not-viewable in
-    omega (arith, (seen _ _ (yes viewable'.ensures if1'.false)).few, (seen _ _ (yes viewable'.ensures if1'.false)).roomy.small)
+pub cut-own-requires : goal.cut-own-requires
+cut-own-requires c =
+    let v = seen _ _ (yes c.viewable.ensures c.if-not-viewable.false) in
+    record { columns = (omega (arith, v.few, v.roomy.firsts), omega (arith, v.few, v.roomy.starts)); rows = v.roomy.rows }
 
-pub slice_bounds-column_part-end : goal.slice_bounds-column_part-end
-slice_bounds-column_part-end c =
-    let viewable' = c.viewable in
-    let if1' = c.if-not-viewable in
-    sym (length-take-le _ _ (omega (arith, (seen _ _ (yes viewable'.ensures if1'.false)).few, (seen _ _ (yes viewable'.ensures if1'.false)).roomy.firsts)))
-
-pub slice_bounds-column_part-end-2 : goal.slice_bounds-column_part-end-2
-slice_bounds-column_part-end-2 c =
-    let viewable' = c.viewable in
-    let if1' = c.if-not-viewable in
-    sym (length-take-le _ _ (omega (arith, (seen _ _ (yes viewable'.ensures if1'.false)).few, (seen _ _ (yes viewable'.ensures if1'.false)).roomy.starts)))
-
-pub slice_bounds-column_part-end-3 : goal.slice_bounds-column_part-end-3
-slice_bounds-column_part-end-3 c =
-    let viewable' = c.viewable in
-    let if1' = c.if-not-viewable in
-    sym (length-take-le _ _ (seen _ _ (yes viewable'.ensures if1'.false)).roomy.rows)
+pub invariant_of-walked : goal.invariant_of-walked
+invariant_of-walked c = record { valid = rw c.cut-own.ensures.shape (seen _ _ (yes c.viewable.ensures c.if-not-viewable.false)).walkable }
 
 pub column_part-requires : goal.column_part-requires
 column_part-requires c =
-    let viewable' = c.viewable in
-    let if1' = c.if-not-viewable in
-    let if2' = c.if-at-n in record { walkable = part_walkable _ _ (yes viewable'.ensures if1'.false); firsts_in_bounds = part_room _ _ (yes viewable'.ensures if1'.false); n_bound = ((seen _ _ (yes viewable'.ensures if1'.false)).roomy.small, if2'.false) }
+    let h = yes c.viewable.ensures c.if-not-viewable.false in
+    record { firsts_in_bounds = seen_room _ _ h _ c.cut-own.ensures.shape; n_bound = (omega (arith, c.cut-own.ensures.n, (seen _ _ h).roomy.small), omega (arith, c.cut-own.ensures.n, c.if-at-record.false)) }
 
 pub returns : goal.returns
-returns c =
-    let viewable' = c.viewable in
-    let if1' = c.if-not-viewable in
-    let args' = c.args in
-    let if2' = c.if-at-n in
-    let column-part' = c.column_part in
-    part_viewed _ _ (yes viewable'.ensures if1'.false) args'.q _ if2'.false column-part'.ensures
+returns c = seen_view _ _ (yes c.viewable.ensures c.if-not-viewable.false) c.args.q _ c.if-at-record.false (rw c.cut-own.ensures.shape at c.column_part.ensures)

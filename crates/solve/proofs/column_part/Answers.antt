@@ -7,17 +7,7 @@ use Rattle.solve.proofs.column_part.Goals as goal
 
 pub owner-k-requires : goal.owner-k-requires
 owner-k-requires c =
-    let pre' = c.requires in record { by_index = pre'.walkable.framed.rise; firsts_bound = (omega (arith, pre'.walkable.framed.from), omega (arith, pre'.walkable.framed.ends, pre'.n_bound.1)) }
-
-pub offset_bounds-firsts-k : goal.offset_bounds-firsts-k
-offset_bounds-firsts-k c =
-    let owner' = c.owner-k in
-    omega (arith, owner'.ensures.inside)
-
-pub bounds-firsts-k : goal.bounds-firsts-k
-bounds-firsts-k c =
-    let owner' = c.owner-k in
-    omega (arith, owner'.ensures.inside)
+    let pre' = c.requires in record { by_index = c.args.walked.now.valid.framed.rise; firsts_bound = (omega (arith, c.args.walked.now.valid.framed.from), omega (arith, c.args.walked.now.valid.framed.ends, pre'.n_bound.1)) }
 
 pub overflow_sub-c : goal.overflow_sub-c
 overflow_sub-c c =
@@ -29,40 +19,16 @@ overflow_add-m c =
     let owner' = c.owner-k in
     omega (arith, owner'.ensures.inside)
 
-pub offset_bounds-starts-k : goal.offset_bounds-starts-k
-offset_bounds-starts-k c =
-    let owner' = c.owner-k in
-    let pre' = c.requires in
-    omega (arith, owner'.ensures.inside, pre'.walkable.framed.long)
-
-pub bounds-starts-k : goal.bounds-starts-k
-bounds-starts-k c =
-    let owner' = c.owner-k in
-    let pre' = c.requires in
-    omega (arith, owner'.ensures.inside, pre'.walkable.framed.long)
-
-pub offset_bounds-starts-k-2 : goal.offset_bounds-starts-k-2
-offset_bounds-starts-k-2 c =
-    let owner' = c.owner-k in
-    let pre' = c.requires in
-    omega (arith, owner'.ensures.inside, pre'.walkable.framed.long)
-
-pub bounds-starts-k-2 : goal.bounds-starts-k-2
-bounds-starts-k-2 c =
-    let owner' = c.owner-k in
-    let pre' = c.requires in
-    omega (arith, owner'.ensures.inside, pre'.walkable.framed.long)
-
 pub overflow_sub-m : goal.overflow_sub-m
 overflow_sub-m c =
     let pre' = c.requires in
     let owner' = c.owner-k in
-    omega (arith, (whole _ pre'.walkable owner'.result owner'.ensures.inside).node.down)
+    omega (arith, (whole _ c.args.walked.now.valid owner'.result owner'.ensures.inside).node.down)
 
 pub offset-off-requires : goal.offset-off-requires
 offset-off-requires c =
     let pre' = c.requires in
-    let owner' = c.owner-k in record { walkable = pre'.walkable; n_bound = (pre'.n_bound.0, omega (arith, owner'.ensures.inside)) }
+    let owner' = c.owner-k in (pre'.n_bound.0, omega (arith, owner'.ensures.inside))
 
 pub offset_bounds-values-off : goal.offset_bounds-values-off
 offset_bounds-values-off c =
@@ -70,7 +36,7 @@ offset_bounds-values-off c =
     let args' = c.args in
     let owner' = c.owner-k in
     let offset' = c.offset-off in
-    omega (arith, part_in _ pre'.walkable args'.q _ owner'.ensures, pre'.firsts_in_bounds, offset'.ensures)
+    omega (arith, part_in _ c.args.walked.now.valid args'.q _ owner'.ensures, pre'.firsts_in_bounds, offset'.ensures)
 
 pub slice_bounds-panel_column-count : goal.slice_bounds-panel_column-count
 slice_bounds-panel_column-count c =
@@ -78,7 +44,7 @@ slice_bounds-panel_column-count c =
     let args' = c.args in
     let owner' = c.owner-k in
     let offset' = c.offset-off in
-    omega (arith, part_in _ pre'.walkable args'.q _ owner'.ensures, pre'.firsts_in_bounds, offset'.ensures)
+    omega (arith, part_in _ c.args.walked.now.valid args'.q _ owner'.ensures, pre'.firsts_in_bounds, offset'.ensures)
 
 pub slice_bounds-panel_column-start : goal.slice_bounds-panel_column-start
 slice_bounds-panel_column-start c =
@@ -86,7 +52,7 @@ slice_bounds-panel_column-start c =
     let args' = c.args in
     let owner' = c.owner-k in
     let offset' = c.offset-off in
-    omega (arith, part_in _ pre'.walkable args'.q _ owner'.ensures, pre'.firsts_in_bounds, offset'.ensures)
+    omega (arith, part_in _ c.args.walked.now.valid args'.q _ owner'.ensures, pre'.firsts_in_bounds, offset'.ensures)
 
 pub panel_column-requires : goal.panel_column-requires
 panel_column-requires c =
@@ -94,7 +60,7 @@ panel_column-requires c =
     let args' = c.args in
     let owner' = c.owner-k in
     let offset' = c.offset-off in
-    part_within _ pre'.walkable args'.q _ owner'.ensures args'.values.now _ offset'.ensures pre'.firsts_in_bounds pre'.n_bound.0
+    part_within _ c.args.walked.now.valid args'.q _ owner'.ensures args'.values.now _ offset'.ensures pre'.firsts_in_bounds pre'.n_bound.0
 
 pub returns : goal.returns
 returns c =
@@ -103,4 +69,4 @@ returns c =
     let args' = c.args in
     let owner' = c.owner-k in
     let offset' = c.offset-off in
-    panel-column'.ensures ∙ part_is _ pre'.walkable args'.q _ owner'.ensures args'.values.now _ offset'.ensures
+    panel-column'.ensures ∙ part_is _ c.args.walked.now.valid args'.q _ owner'.ensures args'.values.now _ offset'.ensures

@@ -1,26 +1,18 @@
-use Prim.Native.Nat.{◌-◌}
-use native.Mathlib.Omega.{arith}
-use Rattle.solve.proofs.Viewed.{owner_start, owner_more, owner_is}
+-- `solve::owner` meets its contract: the first columns up to q come before those past it. Assumes nothing.
+use Rattle.std.proofs.Common.{rules, leb}
+use Rattle.std.proofs.lemmas.List.Sorted.{IsPartitionPoint-from_clause}
+use borrow.Author.Tests.{tests}
+use Rattle.solve.proofs.Viewed.{parted, owner_some, owner_at}
 use Rattle.solve.proofs.owner.Goals as goal
 
-pub loop-k-init : goal.loop-k-init
-loop-k-init c =
-    let args' = c.args in
-    let pre' = c.requires in
-    (owner_start args'.firsts.now args'.q pre'.firsts_bound.0 pre'.firsts_bound.1, pre'.firsts_bound.0)
-
-pub loop-k-preserved : goal.loop-k-preserved
-loop-k-preserved c =
-    let args' = c.args in
-    let loop' = c.loop-k in
-    let if1' = c.loop-k-test in
-    let pre' = c.requires in
-    (owner_more args'.firsts.now loop'.k args'.q (omega arith) if1'.true pre'.firsts_bound.1, if1'.true)
+pub overflow_sub-result : goal.overflow_sub-result
+overflow_sub-result c =
+    let l = c.args.firsts.now in
+    let p = IsPartitionPoint-from_clause (λ f. leb f c.args.q) l _ c.partition_point.ensures.partitioned (parted l c.args.q c.requires.by_index) (λ a r f k. search (rules, tests)) in
+    owner_some l c.args.q _ c.requires.by_index c.requires.firsts_bound.0 c.requires.firsts_bound.1 p
 
 pub returns : goal.returns
 returns c =
-    let args' = c.args in
-    let loop' = c.loop-k in
-    let pre' = c.requires in
-    let if1' = c.loop-k-test in
-    owner_is args'.firsts.now loop'.k args'.q pre'.by_index (omega arith) loop'.invariant.1 if1'.false
+    let l = c.args.firsts.now in
+    let p = IsPartitionPoint-from_clause (λ f. leb f c.args.q) l _ c.partition_point.ensures.partitioned (parted l c.args.q c.requires.by_index) (λ a r f k. search (rules, tests)) in
+    owner_at l c.args.q _ c.requires.by_index c.requires.firsts_bound.0 c.requires.firsts_bound.1 p

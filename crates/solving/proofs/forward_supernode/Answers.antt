@@ -1,110 +1,55 @@
 -- `solving::forward_supernode` meets its contract: its columns in turn. Assumes nothing.
 use native.Mathlib.Omega.{arith}
 use Rattle.laws.proofs.Walked.{whole}
+use Rattle.solving.proofs.Order.{stretch_in}
 use Rattle.solving.proofs.Walk.{next_at, block_of, forward_done}
 use Rattle.solving.proofs.forward_supernode.Goals as goal
 
 pub overflow_sub-w : goal.overflow_sub-w
-overflow_sub-w c =
-    let pre' = c.requires in
-    let args' = c.args in
-    omega (arith, (whole _ pre'.walked.walk args'.k pre'.k_in_bounds).node.right)
+overflow_sub-w c = let p = whole _ c.args.factor.now.valid.walked.walk _ c.requires.k_in_bounds in omega arith
 
-pub offset_bounds-starts-k : goal.offset_bounds-starts-k
-offset_bounds-starts-k c =
-    let pre' = c.requires in
-    omega (arith, pre'.walked.walk.framed.long)
-
-pub bounds-starts-k : goal.bounds-starts-k
-bounds-starts-k c =
-    let pre' = c.requires in
-    omega (arith, pre'.walked.walk.framed.long)
-
-pub offset_bounds-starts-k-2 : goal.offset_bounds-starts-k-2
-offset_bounds-starts-k-2 c =
-    let pre' = c.requires in
-    omega (arith, pre'.walked.walk.framed.long)
-
-pub bounds-starts-k-2 : goal.bounds-starts-k-2
-bounds-starts-k-2 c =
-    let pre' = c.requires in
-    omega (arith, pre'.walked.walk.framed.long)
-
-pub offset_bounds-rows-s : goal.offset_bounds-rows-s
-offset_bounds-rows-s c =
-    let pre' = c.requires in
-    let args' = c.args in
-    omega (arith, (whole _ pre'.walked.walk args'.k pre'.k_in_bounds).node.down, (whole _ pre'.walked.walk args'.k pre'.k_in_bounds).node.inside)
+pub offset_bounds-factor-s : goal.offset_bounds-factor-s
+offset_bounds-factor-s c = let p = whole _ c.args.factor.now.valid.walked.walk _ c.requires.k_in_bounds in omega arith
 
 pub slice_bounds-forward_columns-count : goal.slice_bounds-forward_columns-count
-slice_bounds-forward_columns-count c =
-    let pre' = c.requires in
-    let args' = c.args in
-    omega (arith, (whole _ pre'.walked.walk args'.k pre'.k_in_bounds).node.down)
+slice_bounds-forward_columns-count c = let p = whole _ c.args.factor.now.valid.walked.walk _ c.requires.k_in_bounds in omega arith
 
 pub slice_bounds-forward_columns-start : goal.slice_bounds-forward_columns-start
-slice_bounds-forward_columns-start c =
-    let pre' = c.requires in
-    let args' = c.args in
-    omega (arith, (whole _ pre'.walked.walk args'.k pre'.k_in_bounds).node.down)
+slice_bounds-forward_columns-start c = let p = whole _ c.args.factor.now.valid.walked.walk _ c.requires.k_in_bounds in omega arith
 
 pub slice_bounds-forward_columns-end : goal.slice_bounds-forward_columns-end
-slice_bounds-forward_columns-end c =
-    let pre' = c.requires in
-    let args' = c.args in
-    omega (arith, (whole _ pre'.walked.walk args'.k pre'.k_in_bounds).node.inside)
+slice_bounds-forward_columns-end c = let p = whole _ c.args.factor.now.valid.walked.walk _ c.requires.k_in_bounds in omega arith
 
-pub offset_bounds-values-off : goal.offset_bounds-values-off
-offset_bounds-values-off c =
-    let pre' = c.requires in
-    let args' = c.args in
-    omega (arith, pre'.off_value, pre'.k_in_bounds_2.0, next_at _ pre'.walked args'.k pre'.k_in_bounds)
+pub overflow_sub-e : goal.overflow_sub-e
+overflow_sub-e c = let p = whole _ c.args.factor.now.valid.walked.walk _ c.requires.k_in_bounds in omega arith
+
+pub column_start-requires : goal.column_start-requires
+column_start-requires c = let p = whole _ c.args.factor.now.valid.walked.walk _ c.requires.k_in_bounds in (p.wide, omega (arith, p.few, c.args.factor.now.valid.few))
+
+pub offset_bounds-factor-off : goal.offset_bounds-factor-off
+offset_bounds-factor-off c = let f = c.args.factor.now in omega (arith, c.requires.off_value, stretch_in f.valid _ c.requires.k_in_bounds, next_at _ f.valid.walked _ c.requires.k_in_bounds)
 
 pub slice_bounds-forward_columns-count-2 : goal.slice_bounds-forward_columns-count-2
-slice_bounds-forward_columns-count-2 c =
-    let pre' = c.requires in
-    let args' = c.args in
-    omega (arith, pre'.off_value, pre'.k_in_bounds_2.0, next_at _ pre'.walked args'.k pre'.k_in_bounds)
+slice_bounds-forward_columns-count-2 c = let f = c.args.factor.now in omega (arith, c.requires.off_value, stretch_in f.valid _ c.requires.k_in_bounds, next_at _ f.valid.walked _ c.requires.k_in_bounds)
 
 pub slice_bounds-forward_columns-start-2 : goal.slice_bounds-forward_columns-start-2
-slice_bounds-forward_columns-start-2 c =
-    let pre' = c.requires in
-    let args' = c.args in
-    omega (arith, pre'.off_value, pre'.k_in_bounds_2.0, next_at _ pre'.walked args'.k pre'.k_in_bounds)
+slice_bounds-forward_columns-start-2 c = let f = c.args.factor.now in omega (arith, c.requires.off_value, stretch_in f.valid _ c.requires.k_in_bounds, next_at _ f.valid.walked _ c.requires.k_in_bounds)
 
 pub forward_columns-requires : goal.forward_columns-requires
 forward_columns-requires c =
-    let pre' = c.requires in
-    let args' = c.args in
-    block_of _ pre'.walked args'.k pre'.k_in_bounds args'.values.now args'.off pre'.off_value pre'.k_in_bounds_2.0 pre'.k_in_bounds_2.1
-
-pub overflow_sub-e : goal.overflow_sub-e
-overflow_sub-e c =
-    let pre' = c.requires in
-    let args' = c.args in
-    omega (arith, (whole _ pre'.walked.walk args'.k pre'.k_in_bounds).node.down)
-
-pub column_start-requires : goal.column_start-requires
-column_start-requires c =
-    let pre' = c.requires in
-    let args' = c.args in
-    ((whole _ pre'.walked.walk args'.k pre'.k_in_bounds).wide, omega (arith, (whole _ pre'.walked.walk args'.k pre'.k_in_bounds).few, pre'.k_in_bounds_2.1))
+    let f = c.args.factor.now in
+    rw c.requires.x_len (block_of _ f.valid.walked _ c.requires.k_in_bounds f.values.now _ c.requires.off_value (stretch_in f.valid _ c.requires.k_in_bounds) f.valid.few)
 
 pub overflow_add-result : goal.overflow_add-result
-overflow_add-result c =
-    let pre' = c.requires in
-    let column-start' = c.column_start in
-    let args' = c.args in
-    omega (arith, pre'.off_value, pre'.k_in_bounds_2.0, column-start'.ensures, next_at _ pre'.walked args'.k pre'.k_in_bounds)
+overflow_add-result c = let f = c.args.factor.now in omega (arith, c.requires.off_value, stretch_in f.valid _ c.requires.k_in_bounds, c.column_start.ensures, next_at _ f.valid.walked _ c.requires.k_in_bounds)
 
 pub shape_of-x : goal.shape_of-x
-shape_of-x c =
-    let forward-columns' = c.forward_columns in
-    forward-columns'.auto.x
+shape_of-x c = c.forward_columns.auto.x
 
 pub returns : goal.returns
 returns c =
-    let pre' = c.requires in
-    let column-start' = c.column_start in
-    let args' = c.args in
-    let forward-columns' = c.forward_columns in record { value = omega (arith, pre'.off_value, column-start'.ensures, next_at _ pre'.walked args'.k pre'.k_in_bounds); x_after = forward_done _ pre'.walked args'.k pre'.k_in_bounds args'.values.now args'.off pre'.off_value _ _ forward-columns'.ensures }
+    let f = c.args.factor.now in
+    record {
+      value = omega (arith, c.requires.off_value, c.column_start.ensures, next_at _ f.valid.walked _ c.requires.k_in_bounds);
+      x_after = forward_done _ f.valid.walked _ c.requires.k_in_bounds f.values.now _ c.requires.off_value _ _ c.forward_columns.ensures;
+    }

@@ -1,4 +1,3 @@
-use Prim.Native.Nat.{◌-◌}
 use native.Mathlib.Nat.{le_refl}
 use native.Mathlib.Omega.{arith}
 use Rattle.statement.specs.Input.{+0}
@@ -39,16 +38,6 @@ offset_bounds-x-a c =
 
 pub bounds-x-a : goal.bounds-x-a
 bounds-x-a c =
-    let loop' = c.loop-a in
-    omega (arith, loop'.invariant.len)
-
-pub overflow_add-a : goal.overflow_add-a
-overflow_add-a c =
-    let loop' = c.loop-a in
-    omega (arith, loop'.invariant.len)
-
-pub loop-a-smaller : goal.loop-a-smaller
-loop-a-smaller c =
     let loop' = c.loop-a in
     omega (arith, loop'.invariant.len)
 

@@ -1,5 +1,4 @@
 -- `solving::gather` meets its contract: x from the front. Assumes nothing.
-use Prim.Native.Nat.{◌-◌}
 use lib.ListN.{length, get_or}
 use Rattle.statement.specs.Input.{+0}
 use Rattle.areas.proofs.Front.{Front}
@@ -7,6 +6,3 @@ use Rattle.solving.proofs.gather.Given as goal
 
 abbrev pub invariant-loop-a : goal.invariant-loop-a
 invariant-loop-a l = Front (λ a. get_or l.b (get_or l.permutation a 0) +0) (length l.initial.x) l.initial.x l.x l.a
-
-abbrev pub decreases-loop-a : goal.decreases-loop-a
-decreases-loop-a l = length l.initial.x - l.a
