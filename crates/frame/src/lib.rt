@@ -40,7 +40,7 @@ fn hex_value(b: u8) -> Option<u64>
 }
 
 // The number that at most 16 digits stand for.
-fn value(s: &[u8]) -> Option<u64>
+pub fn value(s: &[u8]) -> Option<u64>
     requires { length s.now ≤ 16 }
     ensures { said result ≡ value_from 0 s.now }
 {
