@@ -302,7 +302,7 @@ pub fn many_in_order(rt: &impl Print) -> io::Result<()> {
 }
 
 fn whole(rt: &impl Print, dish: Dish) -> io::Result<()> {
-    for q in 0..6 {
+    for q in 0..=6 {
         viewed(rt, dish, Damage::Nothing, Lending::Exact, q)?;
     }
     viewed(rt, dish, Damage::Nothing, Lending::Loose, usize::MAX)
