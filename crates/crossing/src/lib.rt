@@ -7,18 +7,12 @@ ghost use Rattle.statement.specs.Answers.{number};
 ghost use Rattle.crossing.specs.Words.{stage_word, answer_words, outcome_words, handed, order_said, stop_said, stage_said, record_said};
 
 use answers::{first_detail, number, second_detail};
-use areas::clear_floats;
 use statement::{Answer, Order, Outcome, Record, Stage, Stop};
 
 fn stage_word(s: Stage) -> usize
     ensures { result ≡ stage_word s }
 {
-    match s {
-        Stage::Empty => 0,
-        Stage::Analysed => 1,
-        Stage::Partial => 2,
-        Stage::Full => 3,
-    }
+    s as usize
 }
 
 pub fn answer_words(a: Answer) -> [usize; 3]
@@ -33,12 +27,11 @@ pub fn outcome_words(x: Outcome) -> [usize; 12]
 {
     let a = x.answer;
     let r = x.record;
-    let s = r.state;
     [
         number(a),
         first_detail(a),
         second_detail(a),
-        stage_word(s),
+        stage_word(r.state),
         r.n,
         r.supernodes,
         r.rows,
@@ -54,43 +47,37 @@ pub fn outcome_words(x: Outcome) -> [usize; 12]
 pub fn cross(x: Outcome, results: &mut [usize; 12]) -> usize
     ensures { (results.new ≡ outcome_words x) × (result ≡ number x.answer) }
 {
-    let w = outcome_words(x);
-    *results = w;
-    let a = x.answer;
-    number(a)
+    *results = outcome_words(x);
+    number(x.answer)
 }
 
 pub fn order_of(word: usize) -> Order
     ensures { result ≡ order_said word }
 {
-    if word == 0 {
-        return Order::Plain;
+    match word {
+        0 => Order::Plain,
+        _ => Order::Listed,
     }
-    Order::Listed
 }
 
 pub fn stop_of(word: usize) -> Stop
     ensures { result ≡ stop_said word }
 {
-    if word == usize::MAX {
-        return Stop::End;
+    match word {
+        usize::MAX => Stop::End,
+        count => Stop::After(count),
     }
-    Stop::After(word)
 }
 
 fn stage_of(word: usize) -> Stage
     ensures { result ≡ stage_said word }
 {
-    if word == 1 {
-        return Stage::Analysed;
+    match word {
+        1 => Stage::Analysed,
+        2 => Stage::Partial,
+        3 => Stage::Full,
+        _ => Stage::Empty,
     }
-    if word == 2 {
-        return Stage::Partial;
-    }
-    if word == 3 {
-        return Stage::Full;
-    }
-    Stage::Empty
 }
 
 pub fn record_of(words: &[usize; 9]) -> Record
@@ -109,23 +96,13 @@ pub fn record_of(words: &[usize; 9]) -> Record
     }
 }
 
-fn copy_floats(from: &[f64], to: &mut [f64])
-    requires { length from.now ≤ length to.old }
-    ensures { to.new ≡ from.now ++ drop (length from.now) to.old }
-{
-    let mut i: usize = 0;
-    while i < from.len() {
-        to[i] = from[i];
-        i += 1;
-    }
-}
-
 // The part and zeros after it; zeros alone where it does not fit.
+#[tactic(auto, unfolding(crate::specs::Words::handed, statement::specs::Areas::held))]
 pub fn hand(part: &[f64], to: &mut [f64])
     ensures { to.new ≡ handed (length to.old) part.now }
 {
-    clear_floats(to);
+    to.fill(0.0);
     if part.len() <= to.len() {
-        copy_floats(part, to);
+        to[..part.len()].copy_from_slice(part);
     }
 }

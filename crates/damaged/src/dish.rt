@@ -2,7 +2,7 @@
 ghost use Rattle.std.specs.Prelude.{◌≡◌, length};
 
 use statement::{Record, Stage};
-use std::num::nearest_u64_to_f64;
+use std::num::nearest_usize_to_f64;
 
 #[derive(Clone, Copy)]
 pub enum Dish {
@@ -29,14 +29,14 @@ fn full(
 ) -> Record {
     Record {
         state: Stage::Full,
-        n: n,
-        supernodes: supernodes,
-        rows: rows,
-        updates: updates,
-        tasks: tasks,
+        n,
+        supernodes,
+        rows,
+        updates,
+        tasks,
         top: 0,
-        entries: entries,
-        work: work,
+        entries,
+        work,
     }
 }
 
@@ -65,8 +65,7 @@ pub fn firsts(dish: Dish) -> [usize; 9]
     ensures { 9 ≡ length result }
 {
     match dish {
-        Dish::Three => [0, 3, 0, 0, 4, 5, 6, 7, 8],
-        Dish::Wide => [0, 3, 0, 0, 4, 5, 6, 7, 8],
+        Dish::Three | Dish::Wide => [0, 3, 0, 0, 4, 5, 6, 7, 8],
         _ => [0, 1, 2, 3, 4, 5, 6, 7, 8],
     }
 }
@@ -123,7 +122,7 @@ pub fn buffer() -> [f64; 400]
     let first = [1.5, 0.1, -3.0, 0.7, 5.25, 1000000.3, 7.0, 8.0];
     let mut b = [0.0; 400];
     for i in 0..400 {
-        b[i] = first[i % 8] + nearest_u64_to_f64((i % 192 / 8) as u64);
+        b[i] = first[i % 8] + nearest_usize_to_f64(i % 192 / 8);
     }
     b[200] = 1.0 / 0.0;
     b[210] = 0.0 / 0.0;

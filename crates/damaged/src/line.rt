@@ -1,12 +1,11 @@
 // Lines of the output.
-use crate::damage::Damage;
+use crate::damage::{Area, Count, Damage};
 use crate::dish::Dish;
 use crate::lending::Lending;
 use lines::bits_of;
 use lists::{say, say_bits, say_number};
 use statement::{Answer, Stage};
 use std::io;
-use std::num::wrapping_add_u64;
 
 pub fn say_dish(rt: &impl Print, dish: Dish) -> io::Result<()> {
     match dish {
@@ -27,19 +26,19 @@ fn say_stage(rt: &impl Print, stage: Stage) -> io::Result<()> {
     }
 }
 
-fn say_count(rt: &impl Print, which: usize) -> io::Result<()> {
+fn say_count(rt: &impl Print, which: Count) -> io::Result<()> {
     match which {
-        1 => say(rt, b" n"),
-        2 => say(rt, b" supernodes"),
-        3 => say(rt, b" rows"),
-        4 => say(rt, b" entries"),
-        _ => say(rt, b" others"),
+        Count::N => say(rt, b" n"),
+        Count::Supernodes => say(rt, b" supernodes"),
+        Count::Rows => say(rt, b" rows"),
+        Count::Entries => say(rt, b" entries"),
+        Count::Others => say(rt, b" others"),
     }
 }
 
-pub fn say_area(rt: &impl Print, area: usize, at: usize) -> io::Result<()> {
+pub fn say_area(rt: &impl Print, area: Area, at: usize) -> io::Result<()> {
     say(rt, b" area")?;
-    say_number(rt, area)?;
+    say_number(rt, area as usize)?;
     say(rt, b" at")?;
     say_number(rt, at)
 }
@@ -72,7 +71,7 @@ pub fn say_lending(rt: &impl Print, lending: Lending) -> io::Result<()> {
         Lending::Loose => say(rt, b", loose:"),
         Lending::Short(area) => {
             say(rt, b", short")?;
-            say_number(rt, area)?;
+            say_number(rt, area as usize)?;
             say(rt, b":")
         }
         Lending::LongSide => say(rt, b", long side:"),
@@ -99,11 +98,7 @@ pub fn say_fault(rt: &impl Print, zero: bool, kept: bool) -> io::Result<()> {
 
 // The sum of the bit patterns.
 pub fn sum(s: &[f64]) -> u64 {
-    let mut t = 0;
-    for x in s {
-        t = wrapping_add_u64(t, bits_of(*x));
-    }
-    t
+    s.iter().fold(0, |t: u64, x| t.wrapping_add(bits_of(*x)))
 }
 
 pub fn say_all(rt: &impl Print, s: &[f64]) -> io::Result<()> {
@@ -114,20 +109,10 @@ pub fn say_all(rt: &impl Print, s: &[f64]) -> io::Result<()> {
 }
 
 pub fn zero_words(s: &[usize]) -> bool {
-    for x in s {
-        if *x != 0 {
-            return false;
-        }
-    }
-    true
+    s.iter().all(|x| *x == 0)
 }
 
 // 0.0, and not -0.0.
 pub fn zero_floats(s: &[f64]) -> bool {
-    for x in s {
-        if bits_of(*x) != 0 {
-            return false;
-        }
-    }
-    true
+    s.iter().all(|x| bits_of(*x) == 0)
 }

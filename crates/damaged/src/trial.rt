@@ -1,7 +1,7 @@
 // One call of solve or of the view, on fresh copies of a dish's areas with one damage done to them.
-use crate::damage::{Damage, harm_values, harm_words, harmed};
+use crate::damage::{Area, Damage, harm_values, harm_words, harmed};
 use crate::dish::{Dish, buffer, firsts, permutation, record, rows, starts, values};
-use crate::lending::{Lending, least, lent};
+use crate::lending::{Lending, lent};
 use crate::line::{
     say_all, say_damage, say_details, say_dish, say_fault, say_lending, sum, zero_floats,
     zero_words,
@@ -157,14 +157,14 @@ fn lend(
     b: &mut [f64],
     length: usize,
 ) -> io::Result<()> {
-    let p = lent(sound, lending, 1, permutation.len());
-    let f = lent(sound, lending, 2, firsts.len());
-    let s = lent(sound, lending, 3, starts.len());
-    let r = lent(sound, lending, 9, rows.len());
-    let v = lent(sound, lending, 11, values.len());
-    let w = lent(sound, lending, 7, words.len());
-    let x = lent(sound, lending, 8, floats.len());
-    let n = least(length, b.len());
+    let p = lent(sound, lending, Area::Permutation, permutation.len());
+    let f = lent(sound, lending, Area::Firsts, firsts.len());
+    let s = lent(sound, lending, Area::Starts, starts.len());
+    let r = lent(sound, lending, Area::Rows, rows.len());
+    let v = lent(sound, lending, Area::Values, values.len());
+    let w = lent(sound, lending, Area::Words, words.len());
+    let x = lent(sound, lending, Area::Floats, floats.len());
+    let n = length.min(b.len());
     call_and_say(
         rt,
         call,
@@ -194,10 +194,10 @@ fn trial(
     let mut s = starts(dish);
     let mut r = rows(dish);
     let mut v = values(dish);
-    harm_words(&mut p, 1, damage);
-    harm_words(&mut f, 2, damage);
-    harm_words(&mut s, 3, damage);
-    harm_words(&mut r, 9, damage);
+    harm_words(&mut p, Area::Permutation, damage);
+    harm_words(&mut f, Area::Firsts, damage);
+    harm_words(&mut s, Area::Starts, damage);
+    harm_words(&mut r, Area::Rows, damage);
     harm_values(&mut v, damage);
     let mut words = [9; 8];
     let mut floats = [9.0; 8];
@@ -226,7 +226,7 @@ pub fn solved(rt: &impl Print, dish: Dish, damage: Damage, lending: Lending) -> 
         whole: true,
         sides: 1,
     };
-    let length = lent(record(dish), lending, 12, 400);
+    let length = lent(record(dish), lending, Area::Side, 400);
     say_dish(rt, dish)?;
     say_damage(rt, damage)?;
     say_lending(rt, lending)?;

@@ -1,5 +1,5 @@
 // The damages, one at a time.
-use crate::damage::{Damage, fewer, more};
+use crate::damage::{Area, Count, Damage};
 use crate::dish::{Dish, record};
 use crate::lending::Lending;
 use crate::line::{say_area, say_dish};
@@ -7,6 +7,16 @@ use crate::trial::{numbered, solved, solved_many, viewed};
 use lists::say;
 use statement::Stage;
 use std::io;
+
+// More than any count or word that may stand.
+const ABSURD: usize = 0x8000_0000_0000_0000;
+
+// A permutation with a repeat.
+const REPEATED: Damage = Damage::Word {
+    area: Area::Permutation,
+    at: 1,
+    to: 0,
+};
 
 pub fn states(rt: &impl Print) -> io::Result<()> {
     // accepted
@@ -30,132 +40,110 @@ pub fn states(rt: &impl Print) -> io::Result<()> {
     solved(rt, Dish::Bare, Damage::State(Stage::Empty), Lending::Exact)
 }
 
-fn count(rt: &impl Print, dish: Dish, which: usize, to: usize) -> io::Result<()> {
-    solved(
-        rt,
-        dish,
-        Damage::Count {
-            which: which,
-            to: to,
-        },
-        Lending::Exact,
-    )?;
-    solved(
-        rt,
-        dish,
-        Damage::Count {
-            which: which,
-            to: to,
-        },
-        Lending::Loose,
-    )
+fn count(rt: &impl Print, dish: Dish, which: Count, to: usize) -> io::Result<()> {
+    let damage = Damage::Count { which, to };
+    solved(rt, dish, damage, Lending::Exact)?;
+    solved(rt, dish, damage, Lending::Loose)
 }
 
 // A count of c that is one more, one less, or absurd.
-fn counted(rt: &impl Print, dish: Dish, which: usize, c: usize) -> io::Result<()> {
-    count(rt, dish, which, more(c))?;
-    count(rt, dish, which, fewer(c))?;
-    count(rt, dish, which, 0x8000_0000_0000_0000)?;
-    count(rt, dish, which, 0xffff_ffff_ffff_ffff)
+fn counted(rt: &impl Print, dish: Dish, which: Count, c: usize) -> io::Result<()> {
+    count(rt, dish, which, c.saturating_add(1))?;
+    count(rt, dish, which, c.saturating_sub(1))?;
+    count(rt, dish, which, ABSURD)?;
+    count(rt, dish, which, usize::MAX)
 }
 
 fn all_counts(rt: &impl Print, dish: Dish) -> io::Result<()> {
     let sound = record(dish);
-    counted(rt, dish, 1, sound.n)?;
-    counted(rt, dish, 2, sound.supernodes)?;
-    counted(rt, dish, 3, sound.rows)?;
-    counted(rt, dish, 4, sound.entries)
+    counted(rt, dish, Count::N, sound.n)?;
+    counted(rt, dish, Count::Supernodes, sound.supernodes)?;
+    counted(rt, dish, Count::Rows, sound.rows)?;
+    counted(rt, dish, Count::Entries, sound.entries)
 }
 
 pub fn counts(rt: &impl Print) -> io::Result<()> {
     all_counts(rt, Dish::Six)?;
     all_counts(rt, Dish::Three)?;
     // the largest n, and one above it
-    count(rt, Dish::Six, 1, 32768)?;
-    count(rt, Dish::Six, 1, 32769)?;
+    count(rt, Dish::Six, Count::N, 32768)?;
+    count(rt, Dish::Six, Count::N, 32769)?;
     // accepted: solve does not ask the others
-    count(rt, Dish::Six, 5, 0xffff_ffff_ffff_ffff)?;
+    count(rt, Dish::Six, Count::Others, usize::MAX)?;
     // a supernode with more columns than rows
     solved(rt, Dish::Wide, Damage::Nothing, Lending::Exact)
 }
 
 fn each_short(rt: &impl Print, dish: Dish) -> io::Result<()> {
-    solved(rt, dish, Damage::Nothing, Lending::Short(1))?;
-    solved(rt, dish, Damage::Nothing, Lending::Short(2))?;
-    solved(rt, dish, Damage::Nothing, Lending::Short(3))?;
-    solved(rt, dish, Damage::Nothing, Lending::Short(9))?;
-    solved(rt, dish, Damage::Nothing, Lending::Short(11))
+    for area in [
+        Area::Permutation,
+        Area::Firsts,
+        Area::Starts,
+        Area::Rows,
+        Area::Values,
+    ] {
+        solved(rt, dish, Damage::Nothing, Lending::Short(area))?;
+    }
+    Ok(())
 }
 
 pub fn short_areas(rt: &impl Print) -> io::Result<()> {
     each_short(rt, Dish::Six)?;
     each_short(rt, Dish::Three)?;
-    solved(rt, Dish::Bare, Damage::Nothing, Lending::Short(2))?;
-    solved(rt, Dish::Bare, Damage::Nothing, Lending::Short(3))
-}
-
-fn word(rt: &impl Print, area: usize, at: usize, to: usize) -> io::Result<()> {
     solved(
         rt,
-        Dish::Six,
-        Damage::Word {
-            area: area,
-            at: at,
-            to: to,
-        },
-        Lending::Exact,
+        Dish::Bare,
+        Damage::Nothing,
+        Lending::Short(Area::Firsts),
+    )?;
+    solved(
+        rt,
+        Dish::Bare,
+        Damage::Nothing,
+        Lending::Short(Area::Starts),
     )
 }
 
-fn swapped(rt: &impl Print, dish: Dish, area: usize, at: usize) -> io::Result<()> {
-    solved(
-        rt,
-        dish,
-        Damage::Swapped { area: area, at: at },
-        Lending::Exact,
-    )
+fn word(rt: &impl Print, area: Area, at: usize, to: usize) -> io::Result<()> {
+    solved(rt, Dish::Six, Damage::Word { area, at, to }, Lending::Exact)
+}
+
+fn swapped(rt: &impl Print, dish: Dish, area: Area, at: usize) -> io::Result<()> {
+    solved(rt, dish, Damage::Swapped { area, at }, Lending::Exact)
 }
 
 // (b), (c) and (d).
 pub fn words(rt: &impl Print) -> io::Result<()> {
     // a permutation with a repeat, and with an entry not below n
-    word(rt, 1, 1, 0)?;
-    word(rt, 1, 5, 6)?;
+    word(rt, Area::Permutation, 1, 0)?;
+    word(rt, Area::Permutation, 5, 6)?;
     // first columns that do not begin with 0, do not rise, do not end with n
-    word(rt, 2, 0, 1)?;
-    word(rt, 2, 2, 1)?;
-    word(rt, 2, 6, 7)?;
-    swapped(rt, Dish::Six, 2, 2)?;
+    word(rt, Area::Firsts, 0, 1)?;
+    word(rt, Area::Firsts, 2, 1)?;
+    word(rt, Area::Firsts, 6, 7)?;
+    swapped(rt, Dish::Six, Area::Firsts, 2)?;
     // row starts that do not begin with 0, fall, do not end with the count
-    word(rt, 3, 0, 1)?;
-    word(rt, 3, 3, 3)?;
-    word(rt, 3, 6, 10)?;
-    swapped(rt, Dish::Six, 3, 3)?;
+    word(rt, Area::Starts, 0, 1)?;
+    word(rt, Area::Starts, 3, 3)?;
+    word(rt, Area::Starts, 6, 10)?;
+    swapped(rt, Dish::Six, Area::Starts, 3)?;
     // rows that are swapped, not below n, or not the own columns first
-    swapped(rt, Dish::Six, 9, 0)?;
-    swapped(rt, Dish::Three, 9, 1)?;
-    word(rt, 9, 1, 6)?;
-    word(rt, 9, 2, 0)?;
+    swapped(rt, Dish::Six, Area::Rows, 0)?;
+    swapped(rt, Dish::Three, Area::Rows, 1)?;
+    word(rt, Area::Rows, 1, 6)?;
+    word(rt, Area::Rows, 2, 0)?;
     // accepted: still a permutation, and another row with which all of (d) holds
-    swapped(rt, Dish::Six, 1, 0)?;
-    swapped(rt, Dish::Four, 1, 0)?;
-    word(rt, 9, 1, 4)
+    swapped(rt, Dish::Six, Area::Permutation, 0)?;
+    swapped(rt, Dish::Four, Area::Permutation, 0)?;
+    word(rt, Area::Rows, 1, 4)
 }
 
-fn number(rt: &impl Print, dish: Dish, area: usize, at: usize, to: usize) -> io::Result<()> {
-    numbered(
-        rt,
-        dish,
-        Damage::Word {
-            area: area,
-            at: at,
-            to: to,
-        },
-    )
+fn number(rt: &impl Print, dish: Dish, area: Area, at: usize, to: usize) -> io::Result<()> {
+    numbered(rt, dish, Damage::Word { area, at, to })
 }
 
 // One word as each number below `top`.
-fn each_number(rt: &impl Print, dish: Dish, area: usize, at: usize, top: usize) -> io::Result<()> {
+fn each_number(rt: &impl Print, dish: Dish, area: Area, at: usize, top: usize) -> io::Result<()> {
     for to in 0..top {
         number(rt, dish, area, at, to)?;
     }
@@ -163,18 +151,18 @@ fn each_number(rt: &impl Print, dish: Dish, area: usize, at: usize, top: usize) 
 }
 
 // And as two absurd ones.
-fn one_word(rt: &impl Print, dish: Dish, area: usize, at: usize, top: usize) -> io::Result<()> {
+fn one_word(rt: &impl Print, dish: Dish, area: Area, at: usize, top: usize) -> io::Result<()> {
     say_dish(rt, dish)?;
     say_area(rt, area, at)?;
     say(rt, b" is 0 and up:")?;
     each_number(rt, dish, area, at, top)?;
-    number(rt, dish, area, at, 0x8000_0000_0000_0000)?;
-    number(rt, dish, area, at, 0xffff_ffff_ffff_ffff)?;
+    number(rt, dish, area, at, ABSURD)?;
+    number(rt, dish, area, at, usize::MAX)?;
     say(rt, b"\n")
 }
 
 // Each of the first `many` words.
-fn each_word(rt: &impl Print, dish: Dish, area: usize, many: usize, top: usize) -> io::Result<()> {
+fn each_word(rt: &impl Print, dish: Dish, area: Area, many: usize, top: usize) -> io::Result<()> {
     for at in 0..many {
         one_word(rt, dish, area, at, top)?;
     }
@@ -183,16 +171,16 @@ fn each_word(rt: &impl Print, dish: Dish, area: usize, many: usize, top: usize) 
 
 // Each word that an area needs, as each number to two above the largest that stands there.
 pub fn every_word(rt: &impl Print) -> io::Result<()> {
-    each_word(rt, Dish::Six, 1, 6, 8)?;
-    each_word(rt, Dish::Six, 2, 7, 9)?;
-    each_word(rt, Dish::Six, 3, 7, 14)?;
-    each_word(rt, Dish::Six, 9, 11, 8)?;
-    each_word(rt, Dish::Three, 1, 3, 5)?;
-    each_word(rt, Dish::Three, 2, 4, 6)?;
-    each_word(rt, Dish::Three, 3, 4, 6)?;
-    each_word(rt, Dish::Three, 9, 3, 5)?;
-    each_word(rt, Dish::Four, 1, 4, 6)?;
-    each_word(rt, Dish::Four, 9, 7, 6)
+    each_word(rt, Dish::Six, Area::Permutation, 6, 8)?;
+    each_word(rt, Dish::Six, Area::Firsts, 7, 9)?;
+    each_word(rt, Dish::Six, Area::Starts, 7, 14)?;
+    each_word(rt, Dish::Six, Area::Rows, 11, 8)?;
+    each_word(rt, Dish::Three, Area::Permutation, 3, 5)?;
+    each_word(rt, Dish::Three, Area::Firsts, 4, 6)?;
+    each_word(rt, Dish::Three, Area::Starts, 4, 6)?;
+    each_word(rt, Dish::Three, Area::Rows, 3, 5)?;
+    each_word(rt, Dish::Four, Area::Permutation, 4, 6)?;
+    each_word(rt, Dish::Four, Area::Rows, 7, 6)
 }
 
 // A full record of the old dish on cleared areas.
@@ -207,13 +195,23 @@ pub fn cleared(rt: &impl Print) -> io::Result<()> {
 
 // 10 and 5.
 pub fn other_numbers(rt: &impl Print) -> io::Result<()> {
-    solved(rt, Dish::Six, Damage::Nothing, Lending::Short(12))?;
+    solved(rt, Dish::Six, Damage::Nothing, Lending::Short(Area::Side))?;
     solved(rt, Dish::Six, Damage::Nothing, Lending::LongSide)?;
     solved(rt, Dish::Bare, Damage::Nothing, Lending::LongSide)?;
-    solved(rt, Dish::Six, Damage::Nothing, Lending::Short(7))?;
-    solved(rt, Dish::Six, Damage::Nothing, Lending::Short(8))?;
-    solved(rt, Dish::Three, Damage::Nothing, Lending::Short(7))?;
-    solved(rt, Dish::Three, Damage::Nothing, Lending::Short(8))?;
+    solved(rt, Dish::Six, Damage::Nothing, Lending::Short(Area::Words))?;
+    solved(rt, Dish::Six, Damage::Nothing, Lending::Short(Area::Floats))?;
+    solved(
+        rt,
+        Dish::Three,
+        Damage::Nothing,
+        Lending::Short(Area::Words),
+    )?;
+    solved(
+        rt,
+        Dish::Three,
+        Damage::Nothing,
+        Lending::Short(Area::Floats),
+    )?;
     solved(rt, Dish::Six, Damage::Nothing, Lending::ShortScratch)
 }
 
@@ -226,26 +224,8 @@ pub fn order(rt: &impl Print) -> io::Result<()> {
         Damage::State(Stage::Partial),
         Lending::ShortAll,
     )?;
-    solved(
-        rt,
-        Dish::Six,
-        Damage::Word {
-            area: 1,
-            at: 1,
-            to: 0,
-        },
-        Lending::ShortAll,
-    )?;
-    solved(
-        rt,
-        Dish::Six,
-        Damage::Word {
-            area: 1,
-            at: 1,
-            to: 0,
-        },
-        Lending::Short(7),
-    )?;
+    solved(rt, Dish::Six, REPEATED, Lending::ShortAll)?;
+    solved(rt, Dish::Six, REPEATED, Lending::Short(Area::Words))?;
     solved(rt, Dish::Six, Damage::Nothing, Lending::ShortAll)?;
     solved(rt, Dish::Three, Damage::Nothing, Lending::ShortAll)
 }
@@ -284,9 +264,9 @@ pub fn too_many(rt: &impl Print) -> io::Result<()> {
     sound(rt, Dish::Six, Lending::Exact, 65, 6)?;
     sound(rt, Dish::Bare, Lending::Exact, 65, 0)?;
     // in 64 bits six times the first is 0, and six times the second 6
-    sound(rt, Dish::Six, Lending::Exact, 0x8000_0000_0000_0000, 0)?;
+    sound(rt, Dish::Six, Lending::Exact, ABSURD, 0)?;
     sound(rt, Dish::Six, Lending::Exact, 0x8000_0000_0000_0001, 6)?;
-    sound(rt, Dish::Six, Lending::Exact, 0xffff_ffff_ffff_ffff, 6)
+    sound(rt, Dish::Six, Lending::Exact, usize::MAX, 6)
 }
 
 // 10.
@@ -314,28 +294,18 @@ pub fn many_in_order(rt: &impl Print) -> io::Result<()> {
     sound(rt, Dish::Six, Lending::ShortScratch, 65, 389)?;
     sound(rt, Dish::Six, Lending::ShortScratch, 2, 11)?;
     sound(rt, Dish::Six, Lending::ShortScratch, 2, 12)?;
-    sound(rt, Dish::Six, Lending::Short(8), 2, 12)?;
-    sound(rt, Dish::Three, Lending::Short(7), 64, 192)?;
-    sound(rt, Dish::Three, Lending::Short(8), 64, 192)?;
+    sound(rt, Dish::Six, Lending::Short(Area::Floats), 2, 12)?;
+    sound(rt, Dish::Three, Lending::Short(Area::Words), 64, 192)?;
+    sound(rt, Dish::Three, Lending::Short(Area::Floats), 64, 192)?;
     // with none, too
-    sound(rt, Dish::Six, Lending::Short(7), 0, 0)
+    sound(rt, Dish::Six, Lending::Short(Area::Words), 0, 0)
 }
 
 fn whole(rt: &impl Print, dish: Dish) -> io::Result<()> {
-    viewed(rt, dish, Damage::Nothing, Lending::Exact, 0)?;
-    viewed(rt, dish, Damage::Nothing, Lending::Exact, 1)?;
-    viewed(rt, dish, Damage::Nothing, Lending::Exact, 2)?;
-    viewed(rt, dish, Damage::Nothing, Lending::Exact, 3)?;
-    viewed(rt, dish, Damage::Nothing, Lending::Exact, 4)?;
-    viewed(rt, dish, Damage::Nothing, Lending::Exact, 5)?;
-    viewed(rt, dish, Damage::Nothing, Lending::Exact, 6)?;
-    viewed(
-        rt,
-        dish,
-        Damage::Nothing,
-        Lending::Loose,
-        0xffff_ffff_ffff_ffff,
-    )
+    for q in 0..=6 {
+        viewed(rt, dish, Damage::Nothing, Lending::Exact, q)?;
+    }
+    viewed(rt, dish, Damage::Nothing, Lending::Loose, usize::MAX)
 }
 
 // The view.
@@ -344,19 +314,15 @@ pub fn columns(rt: &impl Print) -> io::Result<()> {
     whole(rt, Dish::Three)?;
     viewed(rt, Dish::Bare, Damage::Nothing, Lending::Loose, 0)?;
     // it does not ask (b)
+    viewed(rt, Dish::Six, REPEATED, Lending::Exact, 0)?;
+    // but asks the rest
     viewed(
         rt,
         Dish::Six,
-        Damage::Word {
-            area: 1,
-            at: 1,
-            to: 0,
-        },
-        Lending::Exact,
+        Damage::Nothing,
+        Lending::Short(Area::Permutation),
         0,
     )?;
-    // but asks the rest
-    viewed(rt, Dish::Six, Damage::Nothing, Lending::Short(1), 0)?;
     viewed(
         rt,
         Dish::Six,
@@ -368,7 +334,10 @@ pub fn columns(rt: &impl Print) -> io::Result<()> {
     viewed(
         rt,
         Dish::Three,
-        Damage::Count { which: 4, to: 5 },
+        Damage::Count {
+            which: Count::Entries,
+            to: 5,
+        },
         Lending::Exact,
         1,
     )

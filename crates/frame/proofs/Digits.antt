@@ -1,82 +1,32 @@
 -- What hexadecimal digits stand for: byte by byte, by parts, and by a line's frame. Assumes nothing.
 use mathlib.Core.Path.{◌≡◌, refl, sym, ap, ◌∙◌}
-use mathlib.Core.Bool.{true, false}
 use mathlib.Core.List.{List, [], ◌∷◌, ◌++◌}
 use mathlib.Core.Logic.{◌⊎◌, inl, inr, ⊎_elim, ◌≢◌}
 use mathlib.Core.Option.{Option, none, some, none-ne-some}
-use Prim.Native.Nat.{ℕ, zero, suc, ◌+◌, ◌-◌, ◌*◌, ◌/◌, ◌%◌, ◌^◌, ◌<◌, ◌≤◌}
+use Prim.Native.Nat.{ℕ, zero, suc, ◌+◌, ◌*◌, ◌/◌, ◌%◌, ◌^◌, ◌<◌, ◌≤◌}
 use native.Mathlib.Nat.{not-suc-le-zero, le_of_suc-le-suc, mod-eq_of_lt, div-div-eq-div-mul, mod-one, div-one, div-add-mod', mul_assoc, mod-lt, mul-add-mod_self_right, lt-div-mul-add, zero-mul, pow-le-pow_right}
 use native.Mathlib.Numerals.{add-one}
 use native.Mathlib.Omega.{arith}
-use borrow.Author.Tests.{le-leb, lt-leb, ne_eqb}
-use lib.Dec.{leb}
+use borrow.Author.Tests.{ne_eqb}
 use lib.ListN.{length, get_or, take, drop, length-drop, take-append-drop}
 use lib.Pow.{pow-add}
+use Rattle.std.proofs.lemmas.List.{drop-drop}
 use lib.Seq.{drop-cons, take-add, length-take-le}
-use Rattle.statement.specs.Job.{hex_value, value_from, frame, frame_of}
-use Rattle.laws.proofs.Bools.{le-or-lt, lt_or_le}
-use Rattle.frame.specs.Line.{is_some, meant}
-use Rattle.frame.specs.declared.Frame.{Frame}
+use Rattle.statement.specs.Job.{Frame, hex_value, value_from, frame, frame_of}
 
 -- ---- one byte
 
-module _ (b : ℕ) where
-  -- below 48, to 57, to 64, to 70, above
-  pub hex_below : b < 48 → hex_value b ≡ none
-  unfolding hex_value
-  hex_below h =
-      let l : b < 65 = omega arith in
-      simp (lt-leb 48 b h, lt-leb 65 b l)
-
-  pub hex_low : 48 ≤ b → b ≤ 57 → hex_value b ≡ some (b - 48)
-  unfolding hex_value
-  hex_low h l = simp (le-leb 48 b h, le-leb b 57 l)
-
-  pub hex_between : 57 < b → b < 65 → hex_value b ≡ none
-  unfolding hex_value
-  hex_between h l = let k : 48 ≤ b = omega arith in simp (le-leb 48 b k, lt-leb b 57 h, lt-leb 65 b l)
-
-  pub hex_high : 65 ≤ b → b ≤ 70 → hex_value b ≡ some (b - 55)
-  unfolding hex_value
-  hex_high h l =
-      let k : 48 ≤ b = omega arith in
-      let m : 57 < b = omega arith in
-      simp (le-leb 48 b k, lt-leb b 57 m, le-leb 65 b h, le-leb b 70 l)
-
-  pub hex_above : 70 < b → hex_value b ≡ none
-  unfolding hex_value
-  hex_above h =
-      let k : 48 ≤ b = omega arith in
-      let m : 57 < b = omega arith in
-      let n : 65 ≤ b = omega arith in
-      simp (le-leb 48 b k, lt-leb b 57 m, le-leb 65 b n, lt-leb b 70 h)
-
-pub hex_last : (b : ℕ) → 65 ≤ b → leb b 70 ≡ is_some (hex_value b)
-hex_last b h = ⊎_elim (λ l. le-leb b 70 l ∙ sym (ap is_some (hex_high b h l))) (λ l. lt-leb b 70 l ∙ sym (ap is_some (hex_above b l))) (le-or-lt b 70)
+hex_small : (b d : ℕ) → hex_value b ≡ some d → d < 16
+unfolding hex_value
+hex_small b d e = grind arith
 
 -- a byte is a digit below 16, or none
 pub hex_cases : (b : ℕ) → (hex_value b ≡ none) ⊎ ((d : ℕ) × (hex_value b ≡ some d) × (d < 16))
-hex_cases b =
-    ⊎_elim (λ h. inl (hex_below b h))
-    (λ h. ⊎_elim (λ l. inr (b - 48, hex_low b h l, omega arith))
-    (λ l. ⊎_elim (λ k. inl (hex_between b l k))
-    (λ k. ⊎_elim (λ m. inr (b - 55, hex_high b k m, omega arith)) (λ m. inl (hex_above b m)) (le-or-lt b 70)) (lt_or_le b 65)) (le-or-lt b 57)) (lt_or_le b 48)
-
--- what its tests say of a digit
-module _ (b : ℕ) (h : is_some (hex_value b) ≡ true) where
-  pub digit_from : 48 ≤ b
-  digit_from = ⊎_elim (λ l. absurd (let z : false ≡ true = sym (ap is_some (hex_below b l)) ∙ h in let y : ◌≡◌ {A = ℕ} 0 1 = cc in omega arith)) (λ l. l) (lt_or_le b 48)
-
-  pub digit_high : 57 < b → (65 ≤ b) × (b ≤ 70)
-  digit_high k =
-      ⊎_elim (λ l. absurd (let z : false ≡ true = sym (ap is_some (hex_between b k l)) ∙ h in let y : ◌≡◌ {A = ℕ} 0 1 = cc in omega arith))
-      (λ l. ⊎_elim (λ m. (l, m)) (λ m. absurd (let z : false ≡ true = sym (ap is_some (hex_above b m)) ∙ h in let y : ◌≡◌ {A = ℕ} 0 1 = cc in omega arith)) (le-or-lt b 70)) (lt_or_le b 65)
-
-pub same_digit : (b d e : ℕ) → hex_value b ≡ some d → hex_value b ≡ some e → d ≡ e
-same_digit b d e p q = cc
-
-pub no_digit : (b r d : ℕ) → is_some (hex_value b) ≡ false → hex_value b ≡ some d → r ≡ d
-no_digit b r d h e = absurd (let z : true ≡ false = rw e at h in let y : ◌≡◌ {A = ℕ} 0 1 = cc in omega arith)
+hex_cases b = go (hex_value b) refl
+  where
+    go : (o : Option ℕ) → hex_value b ≡ o → (hex_value b ≡ none) ⊎ ((d : ℕ) × (hex_value b ≡ some d) × (d < 16))
+    go none e = inl e
+    go (some d) e = inr (d, e, hex_small b d e)
 
 pub same_value : (a b : ℕ) → ◌≡◌ {A = Option ℕ} (some a) (some b) → a ≡ b
 same_value a b e = cc
@@ -99,10 +49,10 @@ value_none a zero (b ∷ l) h = absurd (not-suc-le-zero h)
 value_none a (suc i) (b ∷ l) h = value_none a i l (le_of_suc-le-suc h)
 
 -- whether all are digits does not hang on what stands before
-value_any : (a c : ℕ) (l : List ℕ) → is_some (value_from a l) ≡ is_some (value_from c l)
+none_any : (a c : ℕ) (l : List ℕ) → value_from a l ≡ none → value_from c l ≡ none
 unfolding value_from
-value_any a c [] = refl
-value_any a c (b ∷ l) = ⊎_elim (λ e. rw (value_stop a b l e, value_stop c b l e)) (λ w. rw (value_digit a b w.0 l w.1, value_digit c b w.0 l w.1) (value_any (a * 16 + w.0) (c * 16 + w.0) l)) (hex_cases b)
+none_any a c [] e = absurd (none-ne-some _ (sym e))
+none_any a c (b ∷ l) e = ⊎_elim (λ n. value_stop c b l n) (λ w. value_digit c b w.0 l w.1 ∙ none_any (a * 16 + w.0) (c * 16 + w.0) l (sym (value_digit a b w.0 l w.1) ∙ e)) (hex_cases b)
 
 -- ---- by parts
 
@@ -152,9 +102,31 @@ value_both a x (b ∷ s) t e = ⊎_elim (λ n. absurd (none-ne-some _ (sym (valu
     let i = value_both (a * 16 + w.0) x s t (sym (value_digit a b w.0 (s ++ t) w.1) ∙ e) in
     (i.0, value_digit a b w.0 s w.1 ∙ i.1, i.2)) (hex_cases b)
 
+-- after a first part that stands for y comes the second
+some_then : (a y : ℕ) (s t : List ℕ) → value_from a s ≡ some y → value_from a (s ++ t) ≡ value_from y t
+unfolding value_from
+some_then a y [] t e = ap (λ z. value_from z t) (same_value a y e)
+some_then a y (b ∷ s) t e = ⊎_elim (λ n. absurd (none-ne-some _ (sym (value_stop a b s n) ∙ e))) (λ w. value_digit a b w.0 (s ++ t) w.1 ∙ some_then (a * 16 + w.0) y s t (sym (value_digit a b w.0 s w.1) ∙ e)) (hex_cases b)
+
+module _ (l : List ℕ) (a k : ℕ) where
+  -- no part of a number is none
+  part_none : value_from 0 (take k (drop a l)) ≡ none → value_from 0 l ≡ none
+  part_none h = go (value_from 0 l) refl
+    where
+      go : (o : Option ℕ) → value_from 0 l ≡ o → value_from 0 l ≡ none
+      go none e = e
+      go (some x) e =
+          let f = value_both 0 x (take a l) (drop a l) (ap (value_from 0) (take-append-drop a l) ∙ e) in
+          let g = value_both f.0 x (take k (drop a l)) (drop k (drop a l)) (ap (value_from f.0) (take-append-drop k (drop a l)) ∙ f.2) in
+          absurd (none-ne-some _ (sym (none_any 0 f.0 (take k (drop a l)) h) ∙ g.1))
+
+  -- where a part is a number and the line from it on is none, the line after it is none
+  pub rest_none : (y : ℕ) → some y ≡ value_from 0 (take k (drop a l)) → value_from 0 (drop a l) ≡ none → value_from 0 (drop (a + k) l) ≡ none
+  rest_none y h n = ap (value_from 0) (sym (drop-drop k a l)) ∙ none_any y 0 (drop k (drop a l)) (sym (some_then 0 y (take k (drop a l)) (drop k (drop a l)) (sym h)) ∙ ap (value_from 0) (take-append-drop k (drop a l)) ∙ n)
+
 module _ (l : List ℕ) (x : ℕ) (e : value_from 0 l ≡ some x) (a k m : ℕ) (n : a + k + m ≡ length l) where
   -- k digits from place a, m before the end
-  pub field_is : value_from 0 (take k (drop a l)) ≡ some (x / 16 ^ m % 16 ^ k)
+  field_is : value_from 0 (take k (drop a l)) ≡ some (x / 16 ^ m % 16 ^ k)
   field_is =
       let d = length-drop (a + k) l in
       let c : length (drop (a + k) l) ≡ m = omega arith in
@@ -167,7 +139,7 @@ module _ (l : List ℕ) (x : ℕ) (e : value_from 0 l ≡ some x) (a k m : ℕ) 
       let z : x / 16 ^ m ≡ f.0 = ap (λ (t : ℕ). x / 16 ^ t) (sym c) ∙ y in
       ap (λ (t : ℕ). value_from t (take k (drop a l))) (sym (mod-one g.0)) ∙ v ∙ ap (λ (t : ℕ). some (f.0 % 16 ^ t)) w ∙ ap (λ (t : ℕ). some (t % 16 ^ k)) (sym z)
 
-  pub field_first : a ≡ 0 → x / 16 ^ m % 16 ^ k ≡ x / 16 ^ m
+  field_first : a ≡ 0 → x / 16 ^ m % 16 ^ k ≡ x / 16 ^ m
   field_first z =
       let y = value_above 0 x l e in
       let q = pow-add 16 m k in
@@ -177,21 +149,21 @@ module _ (l : List ℕ) (x : ℕ) (e : value_from 0 l ≡ some x) (a k m : ℕ) 
       let u : x / 16 ^ m / 16 ^ k * 16 ^ k ≡ 0 = ap (λ (t : ℕ). t * 16 ^ k) d ∙ zero-mul (16 ^ k) in
       mod-eq_of_lt (omega arith)
 
--- ---- one turn of each loop
+  module _ (y : ℕ) (h : some y ≡ value_from 0 (take k (drop a l))) where
+    pub part_is : y ≡ x / 16 ^ m % 16 ^ k
+    part_is = same_value _ _ (h ∙ field_is)
+
+    pub first_is : a ≡ 0 → y ≡ x / 16 ^ m
+    first_is z = part_is ∙ field_first z
+
+-- ---- one turn of the loop
 
 module _ (s : List ℕ) (i : ℕ) (h : i < length s) where
   pub value_step : (v d : ℕ) → hex_value (get_or s i 0) ≡ some d → value_from v (drop i s) ≡ value_from (v * 16 + d) (drop (i + 1) s)
   value_step v d e = rw (add-one, drop-cons s i 0 h) (value_digit v (get_or s i 0) d (drop (suc i) s) e)
 
-  pub all_go : is_some (hex_value (get_or s i 0)) ≡ true → is_some (value_from 0 (drop i s)) ≡ is_some (value_from 0 (drop (i + 1) s))
-  all_go t = ⊎_elim (λ n. absurd (let z : false ≡ true = rw n at t in let y : ◌≡◌ {A = ℕ} 0 1 = cc in omega arith)) (λ w. ap is_some (value_step 0 w.0 w.1) ∙ value_any (0 * 16 + w.0) 0 (drop (i + 1) s)) (hex_cases (get_or s i 0))
-
-  pub all_stop : is_some (hex_value (get_or s i 0)) ≡ false → is_some (value_from 0 (drop i s)) ≡ false
-  all_stop t = ⊎_elim (λ n. rw (drop-cons s i 0 h, value_stop 0 (get_or s i 0) (drop (suc i) s) n)) (λ w. absurd (let z : true ≡ false = rw w.1 at t in let y : ◌≡◌ {A = ℕ} 0 1 = cc in omega arith)) (hex_cases (get_or s i 0))
-
-  -- v and what is left stand for x, and d is the next digit if it is one
-  pub value_next : (v d x : ℕ) → ((e : ℕ) → hex_value (get_or s i 0) ≡ some e → d ≡ e) → value_from v (drop i s) ≡ some x → value_from (v * 16 + d) (drop (i + 1) s) ≡ some x
-  value_next v d x f e = ⊎_elim (λ n. absurd (none-ne-some _ (sym (ap (value_from v) (drop-cons s i 0 h) ∙ value_stop v (get_or s i 0) (drop (suc i) s) n) ∙ e))) (λ w. ap (λ (t : ℕ). value_from (v * 16 + t) (drop (i + 1) s)) (f w.0 w.1) ∙ sym (value_step v w.0 w.1) ∙ e) (hex_cases (get_or s i 0))
+  pub value_ends : (v : ℕ) → hex_value (get_or s i 0) ≡ none → value_from v (drop i s) ≡ none
+  value_ends v e = rw (drop-cons s i 0 h) (value_stop v (get_or s i 0) (drop (suc i) s) e)
 
 -- i digits stand for a number below 16 ^ i
 pub value_more : (v d i : ℕ) → v < 16 ^ i → d < 16 → v * 16 + d < 16 ^ (i + 1)
@@ -205,22 +177,29 @@ value_small v i h l =
 
 -- ---- a line's frame
 
-pub frame_none : (l : List ℕ) → is_some (value_from 0 l) ≡ false → frame_of l ≡ none
-unfolding frame_of
-frame_none l t = go (value_from 0 l) refl
-  where
-    go : (o : Option ℕ) → value_from 0 l ≡ o → frame_of l ≡ none
-    go none e = rw (e, frame_of)
-    go (some x) e = absurd (let z : true ≡ false = rw e at t in let y : ◌≡◌ {A = ℕ} 0 1 = cc in omega arith)
+module _ (l : List ℕ) where
+  frame_none : value_from 0 l ≡ none → none ≡ frame_of l
+  unfolding frame_of
+  frame_none e = rw (e, frame_of)
 
-pub frame_other : (k x : ℕ) → k ≢ 14 → k ≢ 26 → k ≢ 22 → k ≢ 2 → none ≡ frame k x
-unfolding frame
-frame_other k x a b c d = simp (ne_eqb k 14 a, ne_eqb k 26 b, ne_eqb k 22 c, ne_eqb k 2 d)
+  -- by the number that the line stands for, if it does for one
+  pub frame_by : (k : ℕ) (r : Option Frame) → length l ≡ k → (value_from 0 l ≡ none → none ≡ r) → ((x : ℕ) → value_from 0 l ≡ some x → r ≡ frame k x) → r ≡ frame_of l
+  unfolding frame_of
+  frame_by k r n e f = go (value_from 0 l) refl
+    where
+      go : (o : Option ℕ) → value_from 0 l ≡ o → r ≡ frame_of l
+      go none h = sym (e h) ∙ frame_none h
+      go (some x) h = f x h ∙ ap (λ (m : ℕ). frame m x) (sym n) ∙ rw (h, frame_of)
 
-pub frame_by : (l : List ℕ) (k : ℕ) (r : Frame) → length l ≡ k → is_some (value_from 0 l) ≡ true → ((x : ℕ) → value_from 0 l ≡ some x → meant r ≡ frame k x) → meant r ≡ frame_of l
-unfolding frame_of
-frame_by l k r n t f = go (value_from 0 l) refl
-  where
-    go : (o : Option ℕ) → value_from 0 l ≡ o → meant r ≡ frame_of l
-    go none e = absurd (let z : false ≡ true = rw e at t in let y : ◌≡◌ {A = ℕ} 0 1 = cc in omega arith)
-    go (some x) e = f x e ∙ ap (λ (m : ℕ). frame m x) (sym n) ∙ rw (e, frame_of)
+  -- a part of it stands for no number
+  pub part_wrong : (a k : ℕ) → none ≡ value_from 0 (take k (drop a l)) → none ≡ frame_of l
+  part_wrong a k h = frame_none (part_none l a k (sym h))
+
+  -- all of it is read, in parts
+  pub read_whole : (k : ℕ) → length l ≤ k → value_from 0 (drop k l) ≡ none → ⊥
+  read_whole k h e = none-ne-some _ (sym e ∙ value_none 0 k l h)
+
+  -- no line is as long
+  pub frame_other : length l ≢ 14 → length l ≢ 26 → length l ≢ 22 → length l ≢ 2 → none ≡ frame_of l
+  unfolding frame
+  frame_other a b c d = frame_by (length l) none refl (λ _. refl) (λ x _. simp (ne_eqb (length l) 14 a, ne_eqb (length l) 26 b, ne_eqb (length l) 22 c, ne_eqb (length l) 2 d))

@@ -1,18 +1,19 @@
 -- What the code makes of a line, in the statement's words. Assumes nothing.
-use Rattle.std.specs.Prelude.{Bool, true, false}
-use Rattle.std.proofs.Math.Option.{Option, none, some}
+use Rattle.std.specs.Prelude.{Option, Some, None}
+use Rattle.std.proofs.Math.Option as math
 use Rattle.statement.specs.Job as job
 use Rattle.frame.specs.declared.Frame.{Frame}
-use Rattle.frame.specs.declared.Frame.TheVariants.{Begin, Stored, Side, End, Wrong}
+use Rattle.frame.specs.declared.Frame.TheVariants.{Begin, Stored, Side, End}
 
-abbrev pub is_some : {A : Type 0} → Option A → Bool
-is_some none = false
-is_some (some x) = true
+-- an option of the code as the statement writes it
+abbrev pub said : {A : Type 0} → Option A → math.Option A
+said None = math.none
+said (Some x) = math.some x
 
 -- the statement's frame, or none
-abbrev pub meant : Frame → Option job.Frame
-meant (Begin n cap) = some (job.begin n cap)
-meant (Stored column row bits) = some (job.stored column row bits)
-meant (Side position bits) = some (job.side position bits)
-meant End = some job.end
-meant Wrong = none
+abbrev pub meant : Option Frame → math.Option job.Frame
+meant (Some (Begin n cap)) = math.some (job.begin n cap)
+meant (Some (Stored column row bits)) = math.some (job.stored column row bits)
+meant (Some (Side position bits)) = math.some (job.side position bits)
+meant (Some End) = math.some job.end
+meant None = math.none

@@ -1,14 +1,13 @@
 // One line's frame: uppercase hexadecimal, read.
 #![tactic(auto)]
 
-ghost use Rattle.std.specs.Prelude.{◌≡◌, ℕ, ◌+◌, ◌/◌, ◌%◌, ◌^◌, ◌≤◌, ◌<◌, length};
-ghost use Rattle.std.proofs.Math.Option.{none, some};
-ghost use Rattle.statement.specs.Job.{hex_value, value_from, frame, frame_of};
-ghost use Rattle.frame.specs.Line.{is_some, meant};
+ghost use Rattle.std.specs.Prelude.{◌≡◌, ◌≤◌, ◌<◌, length, IfSome};
+ghost use Rattle.statement.specs.Job.{hex_value, value_from, frame_of};
+ghost use Rattle.frame.specs.Line.{said, meant};
 
 use statement::Original;
 
-// A line's frame: `01` to `04`, or none.
+// A line's frame: `01` to `04`.
 #[derive(Clone, Copy)]
 pub enum Frame {
     Begin {
@@ -25,147 +24,96 @@ pub enum Frame {
         bits: u64,
     },
     End,
-    Wrong,
 }
 
-// Whether a byte is an uppercase hexadecimal digit.
-fn is_hex(b: u8) -> bool
-    ensures { result ≡ is_some (hex_value b) }
+// The number of a digit.
+#[tactic(auto, unfolding(statement::specs::Job::hex_value))]
+fn hex_value(b: u8) -> Option<u64>
+    ensures value { said result ≡ hex_value b }
+    ensures small { IfSome result (λ d. d < 16) }
 {
-    if b < 48 {
-        return false;
+    match b {
+        b'0'..=b'9' => Some((b - b'0') as u64),
+        b'A'..=b'F' => Some((b - b'A' + 10) as u64),
+        _ => None,
     }
-    if b <= 57 {
-        return true;
-    }
-    if b < 65 {
-        return false;
-    }
-    b <= 70
-}
-
-// The number of a digit, and 0 for any other byte.
-fn digit(b: u8) -> u64
-    ensures { ((d : ℕ) → hex_value b ≡ some d → result ≡ d) × (result < 16) }
-{
-    if is_hex(b) {
-        if b <= 57 {
-            return (b - 48) as u64;
-        }
-        return (b - 55) as u64;
-    }
-    0
-}
-
-// Whether all bytes are digits.
-fn all_hex(s: &[u8]) -> bool
-    ensures { result ≡ is_some (value_from 0 s.now) }
-{
-    let mut i: usize = 0;
-    while i < s.len() {
-        if is_hex(s[i]) {
-            i += 1;
-        } else {
-            return false;
-        }
-    }
-    true
 }
 
 // The number that at most 16 digits stand for.
-fn value(s: &[u8]) -> u64
+pub fn value(s: &[u8]) -> Option<u64>
     requires { length s.now ≤ 16 }
-    ensures { (x : ℕ) → value_from 0 s.now ≡ some x → result ≡ x }
+    ensures { said result ≡ value_from 0 s.now }
 {
-    let mut v: u64 = 0;
-    let mut i: usize = 0;
-    while i < s.len() {
-        v = v * 16 + digit(s[i]);
-        i += 1;
+    let mut v = 0;
+    for b in s {
+        v = v * 16 + hex_value(*b)?;
     }
-    v
+    Some(v)
 }
 
-// The k digits from place a of a line that stands for x, m digits before its end.
-fn field_at(line: &[u8], a: usize, k: usize) -> u64
-    requires { (a + k ≤ length line.now) × (k ≤ 16) }
-    ensures { (x m : ℕ) → value_from 0 line.now ≡ some x → a + k + m ≡ length line.now → result ≡ x / 16 ^ m % 16 ^ k }
-{
-    value(&line[a..a + k])
-}
-
-fn begin(line: &[u8]) -> Frame
+fn begin(line: &[u8]) -> Option<Frame>
     requires { length line.now ≡ 14 }
-    ensures { (x : ℕ) → value_from 0 line.now ≡ some x → meant result ≡ frame 14 x }
+    ensures { meant result ≡ frame_of line.now }
 {
-    if field_at(line, 0, 2) != 1 {
-        return Frame::Wrong;
+    let kind = value(&line[0..2])?;
+    if kind != 1 {
+        return None;
     }
-    let n = field_at(line, 2, 4) as usize;
-    let cap = field_at(line, 6, 8) as usize;
-    Frame::Begin { n: n, cap: cap }
+    let n = value(&line[2..6])? as usize;
+    let cap = value(&line[6..14])? as usize;
+    Some(Frame::Begin { n, cap })
 }
 
-fn stored(line: &[u8]) -> Frame
+fn stored(line: &[u8]) -> Option<Frame>
     requires { length line.now ≡ 26 }
-    ensures { (x : ℕ) → value_from 0 line.now ≡ some x → meant result ≡ frame 26 x }
+    ensures { meant result ≡ frame_of line.now }
 {
-    if field_at(line, 0, 2) != 2 {
-        return Frame::Wrong;
+    let kind = value(&line[0..2])?;
+    if kind != 2 {
+        return None;
     }
-    let column = field_at(line, 2, 4) as usize;
-    let row = field_at(line, 6, 4) as usize;
-    let bits = field_at(line, 10, 16);
-    Frame::Stored {
+    let column = value(&line[2..6])? as usize;
+    let row = value(&line[6..10])? as usize;
+    let bits = value(&line[10..26])?;
+    Some(Frame::Stored {
         column: Original(column),
         row: Original(row),
-        bits: bits,
-    }
+        bits,
+    })
 }
 
-fn side(line: &[u8]) -> Frame
+fn side(line: &[u8]) -> Option<Frame>
     requires { length line.now ≡ 22 }
-    ensures { (x : ℕ) → value_from 0 line.now ≡ some x → meant result ≡ frame 22 x }
+    ensures { meant result ≡ frame_of line.now }
 {
-    if field_at(line, 0, 2) != 3 {
-        return Frame::Wrong;
+    let kind = value(&line[0..2])?;
+    if kind != 3 {
+        return None;
     }
-    let position = field_at(line, 2, 4) as usize;
-    let bits = field_at(line, 6, 16);
-    Frame::Side {
+    let position = value(&line[2..6])? as usize;
+    let bits = value(&line[6..22])?;
+    Some(Frame::Side {
         position: Original(position),
-        bits: bits,
-    }
+        bits,
+    })
 }
 
-fn end(line: &[u8]) -> Frame
+fn end(line: &[u8]) -> Option<Frame>
     requires { length line.now ≡ 2 }
-    ensures { (x : ℕ) → value_from 0 line.now ≡ some x → meant result ≡ frame 2 x }
+    ensures { meant result ≡ frame_of line.now }
 {
-    if field_at(line, 0, 2) != 4 {
-        return Frame::Wrong;
-    }
-    Frame::End
+    (value(line)? == 4).then_some(Frame::End)
 }
 
 // The frame of a line, which is given without its LF.
-pub fn frame_of(line: &[u8]) -> Frame
+pub fn frame_of(line: &[u8]) -> Option<Frame>
     ensures { meant result ≡ frame_of line.now }
 {
-    if all_hex(line) {
-        let k = line.len();
-        if k == 14 {
-            return begin(line);
-        }
-        if k == 26 {
-            return stored(line);
-        }
-        if k == 22 {
-            return side(line);
-        }
-        if k == 2 {
-            return end(line);
-        }
+    match line.len() {
+        14 => begin(line),
+        26 => stored(line),
+        22 => side(line),
+        2 => end(line),
+        _ => None,
     }
-    Frame::Wrong
 }

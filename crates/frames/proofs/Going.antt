@@ -1,8 +1,7 @@
 -- A text is read line by line: what the lines so far say, and what is left. Assumes nothing.
 use mathlib.Core.Path.{◌≡◌, refl, sym, ap, subst, ◌∙◌}
-use mathlib.Core.Bool.{Bool, true, false, cond}
+use mathlib.Core.Bool.{Bool, true, false}
 use mathlib.Core.List.{List, [], ◌∷◌, ◌++◌, append-nil}
-use mathlib.Core.Logic.{⊎_elim}
 use mathlib.Core.Option.{Option, none, some}
 use Prim.Native.Nat.{ℕ, zero, suc, ◌+◌, ◌-◌, ◌<◌, ◌≤◌}
 use native.Mathlib.Nat.{not-suc-le-zero, le_of_suc-le-suc}
@@ -18,11 +17,12 @@ use Rattle.statement.specs.Input.{+0}
 use Rattle.statement.specs.Supernodes.{below}
 use Rattle.statement.specs.Areas.{held}
 use Rattle.statement.specs.Job.{Phase, unbegun, storing, siding, ended, Frames, no_frames, next, Reading, whole, fault, at_end, read, matrix_of}
-use Rattle.laws.proofs.Bools.{lt_or_le}
-use Rattle.frames.specs.Held.{stage_of, Small, Holds, After, Enough, Cleared, reading_of, answer_of, Kept, Scanned, Done, line_len}
+use Rattle.frames.specs.Held.{rank, stage_of, Small, Holds, After, Enough, Cleared, reading_of, answer_of, Kept, Scanned, Done, line_len}
 use Rattle.frames.specs.declared.Progress.{Progress}
-use Rattle.frames.specs.declared.Read.{Read}
-use Rattle.frames.specs.declared.Read.TheVariants.{Whole, Fault}
+use Rattle.frames.specs.declared.Phase.TheVariants.{Unbegun}
+use Rattle.frames.specs.declared.Whole.{Whole}
+use Rattle.frames.specs.declared.Fault.{Fault}
+use Rattle.std.specs.Prelude.{None, Some, Result, Ok, Err, is_err}
 use Rattle.frames.proofs.Pad.{zeros}
 use Rattle.frames.proofs.Forms.{none_form}
 
@@ -42,15 +42,6 @@ len_none [] zero h = refl
 len_none [] (suc i) h = refl
 len_none (b ∷ s) zero h = absurd (not-suc-le-zero h)
 len_none (b ∷ s) (suc i) h = len_none s i (le_of_suc-le-suc h)
-
-pub line_within : (t : List ℕ) → line_len t ≤ length t
-unfolding line_len
-line_within [] = omega arith
-line_within (b ∷ t) = go (eqb b 10) (line_within t)
-  where
-    go : (d : Bool) → line_len t ≤ length t → cond d 0 (line_len t + 1) ≤ suc (length t)
-    go true h = omega arith
-    go false h = omega arith
 
 -- what follows line k, by the frames with it
 abbrev pub going : Option Frames → ℕ → List ℕ → Reading
@@ -126,7 +117,7 @@ pub record Going (text st₀ ro₀ : List ℕ) (va₀ ri₀ : List Float) (st ro
   pub room : Enough st₀ ro₀ va₀ ri₀
 
 abbrev none_p : Progress
-none_p = record { stage = 0; n = 0; cap = 0; known = record { 0 = 0 }; count = 0; given = 0 }
+none_p = record { phase = Unbegun; n = 0; cap = 0; known = record { 0 = 0 }; count = 0; given = 0 }
 
 held_one : (st : List ℕ) → 0 < length st → st ≡ replicate (length st) 0 → st ≡ held (length st) 0 (0 ∷ [])
 unfolding held
@@ -153,10 +144,10 @@ going_start text st ro va ri p e room b =
 pub fault_whole : {k : ℕ} {j : Frames} → fault k ≡ whole j → ⊥
 fault_whole h = let z : ◌≡◌ {A = ℕ} 0 1 = cc in omega arith
 
-fault_scanned : (g : Reading) (st ro : List ℕ) (va ri : List Float) (k : ℕ) → g ≡ fault k → Scanned g (Fault k) st ro va ri
+fault_scanned : (g : Reading) (st ro : List ℕ) (va ri : List Float) (k : ℕ) → g ≡ fault k → Scanned g (Err (record { line = k })) st ro va ri
 fault_scanned g st ro va ri k e = record { answer = sym (ap answer_of e); kept = λ j f. absurd (fault_whole (sym e ∙ f)) }
 
-whole_scanned : (g : Reading) (st ro : List ℕ) (va ri : List Float) (p : Progress) (j : Frames) → g ≡ whole j → Holds p st ro va ri j → p.stage ≡ 3 → Scanned g (Whole p.n p.cap p.count) st ro va ri
+whole_scanned : (g : Reading) (st ro : List ℕ) (va ri : List Float) (p : Progress) (j : Frames) → g ≡ whole j → Holds p st ro va ri j → rank p.phase ≡ 3 → Scanned g (Ok (record { n = p.n; cap = p.cap; entries = p.count })) st ro va ri
 unfolding matrix_of
 whole_scanned g st ro va ri p j e h s =
     let a = h.n in
@@ -168,69 +159,52 @@ whole_scanned g st ro va ri p j e h s =
           (record { starts = h.starts ∙ ap (λ (m : ℕ). held (length st) 0 (list (λ k. below k j.columns) (suc m))) (h.closed s); rows = h.rows; values = h.values; right = h.right });
     }
 
-module _ (text st₀ ro₀ : List ℕ) (va₀ ri₀ : List Float) (st ro : List ℕ) (va ri : List Float) (p : Progress) (at line e : ℕ) (g : Going text st₀ ro₀ va₀ ri₀ st ro va ri p at line) (f : e ≡ at + line_len (drop at text)) where
-  pub end_within : (at ≤ e) × (e ≤ length text)
-  end_within =
-      let a = g.inside in
-      let b = line_within (drop at text) in
-      let c = length-drop at text in
-      omega arith
+module _ (text st₀ ro₀ : List ℕ) (va₀ ri₀ : List Float) (st ro : List ℕ) (va ri : List Float) (p : Progress) (at line : ℕ) (g : Going text st₀ ro₀ va₀ ri₀ st ro va ri p at line) where
+  -- no LF ends what is left
+  pub cut_scanned : at < length text → line_len (drop at text) ≡ length (drop at text) → Scanned (reading_of text) (Err (record { line = line })) st ro va ri
+  cut_scanned l q = let c = length-drop at text in fault_scanned (reading_of text) st ro va ri line (sym g.rest ∙ read_cut g.frames line [] (drop at text) q (omega arith))
 
-  -- the line that is next
-  rest-is : e < length text → going (next g.frames (take (e - at) (drop at text))) line (drop (e + 1) text) ≡ reading_of text
-  rest-is l =
-      let a = g.inside in
-      let c = length-drop at text in
-      let k : e - at ≡ line_len (drop at text) = omega arith in
-      let m : e + 1 ≡ at + (line_len (drop at text) + 1) = omega arith in
-      let d = drop-drop (line_len (drop at text) + 1) at text in
-      rw (k, m, ← d) (sym (read_line g.frames line [] (drop at text) (omega arith)) ∙ g.rest)
+  module _ (e : ℕ) (f : e ≡ at + line_len (drop at text)) (l : e < length text) where
+    -- the line that is next
+    rest-is : going (next g.frames (take (e - at) (drop at text))) line (drop (e + 1) text) ≡ reading_of text
+    rest-is =
+        let a = g.inside in
+        let c = length-drop at text in
+        let k : e - at ≡ line_len (drop at text) = omega arith in
+        let m : e + 1 ≡ at + (line_len (drop at text) + 1) = omega arith in
+        let d = drop-drop (line_len (drop at text) + 1) at text in
+        rw (k, m, ← d) (sym (read_line g.frames line [] (drop at text) (omega arith)) ∙ g.rest)
 
-  cut_is : at < length text → e ≡ length text → reading_of text ≡ fault line
-  cut_is l q = let c = length-drop at text in sym g.rest ∙ read_cut g.frames line [] (drop at text) (omega arith) (omega arith)
+    module _ (st' ro' : List ℕ) (va' ri' : List Float) where
+      pub stop_scanned : After None st' ro' va' ri' (next g.frames (take (e - at) (drop at text))) → Scanned (reading_of text) (Err (record { line = line })) st' ro' va' ri'
+      stop_scanned h = fault_scanned (reading_of text) st' ro' va' ri' line (by (next g.frames (take (e - at) (drop at text))) h rest-is)
+        where
+          by : (o : Option Frames) → After None st' ro' va' ri' o → going o line (drop (e + 1) text) ≡ reading_of text → reading_of text ≡ fault line
+          by none a b = sym b
+          by (some j) a b = absurd a
 
-  pub cut_scanned : at < length text → e ≡ length text → Scanned (reading_of text) (Fault line) st ro va ri
-  cut_scanned l q = fault_scanned (reading_of text) st ro va ri line (cut_is l q)
-
-  module _ (r : Progress) (st' ro' : List ℕ) (va' ri' : List Float) (h : After r st' ro' va' ri' (next g.frames (take (e - at) (drop at text)))) where
-    -- a line that cannot stand is at fault, with its LF or without
-    pub stop_scanned : at < length text → r.stage ≡ 4 → Scanned (reading_of text) (Fault line) st' ro' va' ri'
-    stop_scanned i q =
-        fault_scanned (reading_of text) st' ro' va' ri' line
-        (⊎_elim (λ l. by (next g.frames (take (e - at) (drop at text))) h (rest-is l)) (λ l. cut_is i (omega (arith, end_within.1))) (lt_or_le e (length text)))
-      where
-        by : (o : Option Frames) → After r st' ro' va' ri' o → going o line (drop (e + 1) text) ≡ reading_of text → reading_of text ≡ fault line
-        by none a b = sym b
-        by (some j) a b = absurd (let z = a.stage in past j.phase (sym z ∙ q))
-          where
-            past : (x : Phase) → stage_of x ≡ 4 → ⊥
-            past unbegun y = omega arith
-            past storing y = omega arith
-            past siding y = omega arith
-            past ended y = omega arith
-
-    pub going_next : e < length text → (r.stage ≡ 4 → ⊥) → Small r → length st' ≡ length st → length ro' ≡ length ro → length va' ≡ length va → length ri' ≡ length ri
-        → Going text st₀ ro₀ va₀ ri₀ st' ro' va' ri' r (e + 1) (line + 1)
-    going_next l q small a b c d = by (next g.frames (take (e - at) (drop at text))) h (rest-is l)
-      where
-        by : (o : Option Frames) → After r st' ro' va' ri' o → going o line (drop (e + 1) text) ≡ reading_of text → Going text st₀ ro₀ va₀ ri₀ st' ro' va' ri' r (e + 1) (line + 1)
-        by none x y = absurd (q x)
-        by (some j) x y =
-            let n = g.lines in
-            let w = end_within in
-            record {
-              frames = j;
-              holds = x;
-              rest = ap (λ (m : ℕ). read (drop (e + 1) text) j m []) (add-one line) ∙ y;
-              inside = omega arith;
-              lines = omega arith;
-              small = small;
-              long₁ = a ∙ g.long₁;
-              long₂ = b ∙ g.long₂;
-              long₃ = c ∙ g.long₃;
-              long₄ = d ∙ g.long₄;
-              room = g.room;
-            }
+      pub going_next : (r : Progress) → After (Some r) st' ro' va' ri' (next g.frames (take (e - at) (drop at text))) → Small r → length st' ≡ length st → length ro' ≡ length ro → length va' ≡ length va → length ri' ≡ length ri
+          → Going text st₀ ro₀ va₀ ri₀ st' ro' va' ri' r (e + 1) (line + 1)
+      going_next r h small a b c d = by (next g.frames (take (e - at) (drop at text))) h rest-is
+        where
+          by : (o : Option Frames) → After (Some r) st' ro' va' ri' o → going o line (drop (e + 1) text) ≡ reading_of text → Going text st₀ ro₀ va₀ ri₀ st' ro' va' ri' r (e + 1) (line + 1)
+          by none x y = absurd x
+          by (some j) x y =
+              let n = g.lines in
+              let w = g.inside in
+              record {
+                frames = j;
+                holds = x;
+                rest = ap (λ (m : ℕ). read (drop (e + 1) text) j m []) (add-one line) ∙ y;
+                inside = omega arith;
+                lines = omega arith;
+                small = small;
+                long₁ = a ∙ g.long₁;
+                long₂ = b ∙ g.long₂;
+                long₃ = c ∙ g.long₃;
+                long₄ = d ∙ g.long₄;
+                room = g.room;
+              }
 
 module _ (text st₀ ro₀ : List ℕ) (va₀ ri₀ : List Float) (st ro : List ℕ) (va ri : List Float) (p : Progress) (at line : ℕ) (g : Going text st₀ ro₀ va₀ ri₀ st ro va ri p at line) (l : length text ≤ at) where
   last : at_end g.frames.phase g.frames line [] ≡ reading_of text
@@ -251,20 +225,11 @@ module _ (text st₀ ro₀ : List ℕ) (va₀ ri₀ : List Float) (st ro : List 
   end_early siding j k h = refl
   end_early ended j k h = absurd (h refl)
 
-  pub done_scanned : p.stage ≡ 3 → Scanned (reading_of text) (Whole p.n p.cap p.count) st ro va ri
+  pub done_scanned : rank p.phase ≡ 3 → Scanned (reading_of text) (Ok (record { n = p.n; cap = p.cap; entries = p.count })) st ro va ri
   done_scanned q = whole_scanned (reading_of text) st ro va ri p g.frames (sym last ∙ end_done g.frames.phase g.frames line (sym g.holds.stage ∙ q)) g.holds q
 
-  pub short_scanned : (p.stage ≡ 3 → ⊥) → Scanned (reading_of text) (Fault line) st ro va ri
+  pub short_scanned : (rank p.phase ≡ 3 → ⊥) → Scanned (reading_of text) (Err (record { line = line })) st ro va ri
   short_scanned q = fault_scanned (reading_of text) st ro va ri line (sym last ∙ end_early g.frames.phase g.frames line (λ z. q (g.holds.stage ∙ z)))
-
-pub room_now : (text st₀ ro₀ : List ℕ) (va₀ ri₀ : List Float) (st ro : List ℕ) (va ri : List Float) (p : Progress) (at line : ℕ) → Going text st₀ ro₀ va₀ ri₀ st ro va ri p at line → Enough st ro va ri
-room_now text st₀ ro₀ va₀ ri₀ st ro va ri p at line g =
-    let r = g.room in
-    let a = g.long₁ in
-    let b = g.long₂ in
-    let c = g.long₃ in
-    let d = g.long₄ in
-    record { starts = omega arith; rows = omega arith; values = omega arith; right = omega arith }
 
 -- ---- the whole reader
 
@@ -284,11 +249,11 @@ ready st₀ ro₀ va₀ ri₀ st ro va ri room c =
       },
     )
 
-module _ (g : Reading) (st₀ ro₀ : List ℕ) (va₀ ri₀ : List Float) (r : Read) (st ro : List ℕ) (va ri : List Float) (s : Scanned g r st ro va ri)
+module _ (g : Reading) (st₀ ro₀ : List ℕ) (va₀ ri₀ : List Float) (r : Result Whole Fault) (st ro : List ℕ) (va ri : List Float) (s : Scanned g r st ro va ri)
     (long₁ : length st ≡ length st₀) (long₂ : length ro ≡ length ro₀) (long₃ : length va ≡ length va₀) (long₄ : length ri ≡ length ri₀) where
-  pub read_whole : (n cap count : ℕ) → r ≡ Whole n cap count → Done g (Whole n cap count) st₀ ro₀ va₀ ri₀ st ro va ri
+  pub read_whole : is_err r ≡ false → Done g r st₀ ro₀ va₀ ri₀ st ro va ri
   unfolding matrix_of
-  read_whole n cap count e = record { answer = sym e ∙ s.answer; kept = by g refl }
+  read_whole e = record { answer = s.answer; kept = by g refl }
     where
       by : (x : Reading) → g ≡ x → Kept st₀ ro₀ va₀ ri₀ g st ro va ri
       by (whole j) f =
@@ -301,15 +266,15 @@ module _ (g : Reading) (st₀ ro₀ : List ℕ) (va₀ ri₀ : List Float) (r : 
             right = k.right ∙ ap (λ (m : ℕ). held m +0 j.b) long₄;
           })
       by (fault k) f =
-          let q : Whole n cap count ≡ Fault k = sym e ∙ s.answer ∙ ap answer_of f in
+          let q : true ≡ false = ap is_err (sym (s.answer ∙ ap answer_of f)) ∙ e in
           absurd (let z : ◌≡◌ {A = ℕ} 0 1 = cc in omega arith)
 
-  pub read_fault : (k : ℕ) (st' ro' : List ℕ) (va' ri' : List Float) → r ≡ Fault k → Cleared st ro va ri st' ro' va' ri' → Done g (Fault k) st₀ ro₀ va₀ ri₀ st' ro' va' ri'
-  read_fault k st' ro' va' ri' e c = record { answer = sym e ∙ s.answer; kept = by g refl }
+  pub read_fault : (st' ro' : List ℕ) (va' ri' : List Float) → is_err r ≡ true → Cleared st ro va ri st' ro' va' ri' → Done g r st₀ ro₀ va₀ ri₀ st' ro' va' ri'
+  read_fault st' ro' va' ri' e c = record { answer = s.answer; kept = by g refl }
     where
       by : (x : Reading) → g ≡ x → Kept st₀ ro₀ va₀ ri₀ g st' ro' va' ri'
       by (whole j) f =
-          let q : Fault k ≡ Whole j.n j.cap (length j.columns) = sym e ∙ s.answer ∙ ap answer_of f in
+          let q : false ≡ true = ap is_err (sym (s.answer ∙ ap answer_of f)) ∙ e in
           absurd (let z : ◌≡◌ {A = ℕ} 0 1 = cc in omega arith)
       by (fault l) f =
           subst (λ (x : Reading). Kept st₀ ro₀ va₀ ri₀ x st' ro' va' ri') (sym f)

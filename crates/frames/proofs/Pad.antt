@@ -1,11 +1,11 @@
 -- Lists that are followed by zeros in their area: one element more, and a run of one value more. Assumes nothing.
-use mathlib.Core.Path.{◌≡◌, sym, ap, ◌∙◌}
+use mathlib.Core.Path.{◌≡◌, refl, sym, ap, ◌∙◌}
 use mathlib.Core.List.{List, [], ◌∷◌, ◌++◌, append_assoc, append-nil}
 use Prim.Native.Nat.{ℕ, zero, suc, ◌+◌, ◌-◌, ◌<◌, ◌≤◌}
 use native.Mathlib.Nat.{add-zero, add-suc}
 use native.Mathlib.Omega.{arith}
-use lib.ListN.{length, take, drop, set, replicate, length-append, length-replicate, length-drop, length-set, replicate-append-replicate, drop_of_length-le}
-use lib.Seq.{set-append_seam, take_at, drop_at, take_all}
+use lib.ListN.{length, take, drop, set, replicate, length-append, length-replicate, length-drop, length-set, replicate-append-replicate}
+use lib.Seq.{set-append_seam, take_at, drop_at, length-take-le}
 use borrow.Rule.Slice.PartMut.{put_mid}
 use Rattle.statement.specs.Lists.{list}
 use Rattle.statement.specs.Areas.{held}
@@ -51,12 +51,14 @@ module _ {A : Type 0} where
       let n : length st' - length (xs ++ replicate m v) ≡ k - m = rw g (simp (length-append, length-replicate) (omega arith)) in
       g ∙ rw n (sym (append_assoc xs (replicate m v) (replicate (k - m) z)))
 
-  -- a part from a to the end, whose first m became v, back in its list
-  pub tail_filled : (v : A) (st ys : List A) (a m : ℕ) → ys ≡ replicate m v ++ drop m (take (length st - a) (drop a st))
-      → put_mid a (length st - a) st ys ≡ take a st ++ (replicate m v ++ drop m (drop a st))
-  tail_filled v st ys a m e =
-      let k : length (drop a st) ≤ length st - a = simp length-drop (omega arith) in
-      rw (drop_of_length-le (drop a st) k, append-nil, e, take_all (length st - a) (drop a st) k)
+  -- the part after a, to b, filled with v
+  pub run_filled : (v : A) (st ys : List A) (a b : ℕ) → a ≤ b → b < length st → ys ≡ replicate (length (take (b + 1 - (a + 1)) (drop (a + 1) st))) v
+      → put_mid (a + 1) (b + 1 - (a + 1)) st ys ≡ take (a + 1) st ++ (replicate (b - a) v ++ drop (b - a) (drop (a + 1) st))
+  run_filled v st ys a b o h e =
+      let k : b + 1 - (a + 1) ≡ b - a = omega arith in
+      let l : b - a ≤ length (drop (a + 1) st) = simp length-drop (omega arith) in
+      let n : length (take (b - a) (drop (a + 1) st)) ≡ b - a = length-take-le (b - a) (drop (a + 1) st) l in
+      rw (e, k, n) refl
 
   -- f's list, whose last m elements are v
   pub list_run : (f : ℕ → A) (v : A) (a m : ℕ) → ((k : ℕ) → a ≤ k → k < a + m → f k ≡ v) → list f a ++ replicate m v ≡ list f (a + m)

@@ -3,8 +3,7 @@ use mathlib.Core.Path.{◌≡◌, refl, sym, ap, subst, ◌∙◌}
 use mathlib.Core.Bool.{Bool, true, false}
 use mathlib.Core.List.{List, [], ◌∷◌, ◌++◌}
 use mathlib.Core.Option.{Option, none, some}
-use Prim.Native.Nat.{ℕ, suc, ◌-◌}
-use native.Mathlib.Omega.{arith}
+use Prim.Native.Nat.{ℕ, suc, ◌-◌, ◌≤◌}
 use lib.Dec.{eqb}
 use lib.ListN.{length, take, replicate}
 use lib.Seq.{take_at}
@@ -12,9 +11,12 @@ use lib.Ieee.{Float}
 use Rattle.statement.specs.Input.{matrix}
 use Rattle.statement.specs.Supernodes.{below}
 use Rattle.statement.specs.Areas.{held}
-use Rattle.statement.specs.Job.{Phase, unbegun, storing, siding, ended, Frames, no_frames, next, whole, fault, at_end, read, matrix_of}
+use Rattle.statement.specs.Job.{Phase, unbegun, storing, siding, ended, Frames, no_frames, next, Reading, whole, fault, at_end, read, matrix_of}
 use Rattle.laws.proofs.Ranks.{list_length}
-use Rattle.frames.specs.Held.{stage_of, Form, reading_of, Kept}
+use Rattle.frames.specs.Held.{stage_of, Form, reading_of, answer_of, Kept}
+use Rattle.std.specs.Prelude.{Result, IfOk}
+use Rattle.frames.specs.declared.Whole.{Whole}
+use Rattle.frames.specs.declared.Fault.{Fault}
 use Rattle.frames.proofs.Forms.{none_form, takes_form}
 use Rattle.frames.proofs.Going.{going, read_lf, read_on, fault_whole}
 use Rattle.frames.proofs.Limit.{next_takes}
@@ -48,6 +50,13 @@ read_ended j k cur (b ∷ t) i g e = byte_ended j k cur b t i (eqb b 10) refl g 
 -- a job: n to 128, at most 4,096 entries, with as many rows and values, and n right sides
 pub whole_form : (t : List ℕ) (i : Frames) → reading_of t ≡ whole i → Form i × (stage_of i.phase ≡ 3)
 whole_form t i e = read_ended no_frames 1 [] t i none_form e
+
+pub whole_fits : (t : List ℕ) (r : Result Whole Fault) → r ≡ answer_of (reading_of t) → IfOk r (λ job. (job.n ≤ 128) × (job.entries ≤ 4096))
+whole_fits t r e = rw e (go (reading_of t) refl)
+  where
+    go : (g : Reading) → reading_of t ≡ g → IfOk (answer_of g) (λ job. (job.n ≤ 128) × (job.entries ≤ 4096))
+    go (whole j) q = let f = whole_form t j q in (f.0.small, f.0.few)
+    go (fault k) q = tt
 
 -- ---- the job's lists, from areas that hold them
 

@@ -1,6 +1,6 @@
 -- How the code's progress and the lent areas hold the frames so far. Assumes nothing.
-use Rattle.std.specs.Prelude.{◌≡◌, Bool, cond, ◌&&◌, List, [], ◌∷◌, ℕ, suc, ◌+◌, ◌-◌, ◌≤◌, ◌<◌, eqb, leb, ltb, length, get_or, replicate, Float}
-use Rattle.std.proofs.Math.Option.{Option, none, some}
+use Rattle.std.specs.Prelude.{◌≡◌, Bool, cond, ◌&&◌, List, [], ◌∷◌, ℕ, suc, ◌+◌, ◌-◌, ◌≤◌, ◌<◌, eqb, leb, ltb, length, get_or, replicate, Float, Option, None, Some, Result, Ok, Err}
+use Rattle.std.proofs.Math.Option as math
 use Rattle.statement.specs.Lists.{list}
 use Rattle.statement.specs.Input.{+0}
 use Rattle.statement.specs.Supernodes.{below}
@@ -8,17 +8,25 @@ use Rattle.statement.specs.Areas.{held}
 use Rattle.statement.specs.Job.{Phase, unbegun, storing, siding, ended, Frames, no_frames, Reading, whole, fault, read, matrix_of}
 use Rattle.statement.specs.declared.Original.{Original}
 use Rattle.frames.specs.declared.Progress.{Progress}
-use Rattle.frames.specs.declared.Read.{Read}
-use Rattle.frames.specs.declared.Read.TheVariants.{Whole, Fault}
+use Rattle.frames.specs.declared.Phase as code
+use Rattle.frames.specs.declared.Phase.TheVariants.{Unbegun, Storing, Siding, Ended}
+use Rattle.frames.specs.declared.Whole.{Whole}
+use Rattle.frames.specs.declared.Fault.{Fault}
 
 -- ---- the frames so far
 
--- the code's number of a phase; 4 is a fault
+-- the phases by their order, the statement's and the code's
 abbrev pub stage_of : Phase → ℕ
 stage_of unbegun = 0
 stage_of storing = 1
 stage_of siding = 2
 stage_of ended = 3
+
+abbrev pub rank : code.Phase → ℕ
+rank Unbegun = 0
+rank Storing = 1
+rank Siding = 2
+rank Ended = 3
 
 -- the last stored column, 0 if there is none
 abbrev pub last_column : List ℕ → Original
@@ -38,7 +46,7 @@ pub record Form (j : Frames) : Type 0 where
   pub last : (k : ℕ) → (last_column j.columns).0 < k → below k j.columns ≡ length j.columns
   pub under : (k : ℕ) → j.n ≤ k → below k j.columns ≡ length j.columns
 
--- ---- the tests, over the code's numbers
+-- ---- the tests, over the code's fields
 
 abbrev pub begin_ok : ℕ → ℕ → Bool
 begin_ok stage n = eqb stage 0 && leb n 128
@@ -65,22 +73,24 @@ pub record Small (p : Progress) : Type 0 where
 -- the starts of the columns to `known` are in their area
 pub record Holds (p : Progress) (st ro : List ℕ) (va ri : List Float) (j : Frames) : Type 0 where
   pub form : Form j
-  pub stage : p.stage ≡ stage_of j.phase
+  pub stage : rank p.phase ≡ stage_of j.phase
   pub n : p.n ≡ j.n
   pub cap : p.cap ≡ j.cap
   pub count : p.count ≡ length j.columns
   pub given : p.given ≡ length j.b
-  pub last : p.stage < 3 → p.known ≡ last_column j.columns
-  pub closed : p.stage ≡ 3 → p.known.0 ≡ j.n
+  pub last : rank p.phase < 3 → p.known ≡ last_column j.columns
+  pub closed : rank p.phase ≡ 3 → p.known.0 ≡ j.n
   pub starts : st ≡ held (length st) 0 (list (λ k. below k j.columns) (suc p.known.0))
   pub rows : ro ≡ held (length ro) 0 j.rows
   pub values : va ≡ held (length va) +0 j.values
   pub right : ri ≡ held (length ri) +0 j.b
 
--- after one line more: a fault, or the frames with it
-abbrev pub After : Progress → List ℕ → List ℕ → List Float → List Float → Option Frames → Type 0
-After p st ro va ri none = p.stage ≡ 4
-After p st ro va ri (some j) = Holds p st ro va ri j
+-- after one line more: the frames with it, or none
+abbrev pub After : Option Progress → List ℕ → List ℕ → List Float → List Float → math.Option Frames → Type 0
+After None st ro va ri math.none = Unit {0}
+After (Some p) st ro va ri (math.some j) = Holds p st ro va ri j
+After None st ro va ri (math.some j) = ⊥
+After (Some p) st ro va ri math.none = ⊥
 
 -- the areas' lengths suffice
 pub record Enough (st ro : List ℕ) (va ri : List Float) : Type 0 where
@@ -101,9 +111,9 @@ pub record Cleared (st₀ ro₀ : List ℕ) (va₀ ri₀ : List Float) (st ro : 
 abbrev pub reading_of : List ℕ → Reading
 reading_of text = read text no_frames 1 []
 
-abbrev pub answer_of : Reading → Read
-answer_of (whole j) = Whole j.n j.cap (length j.columns)
-answer_of (fault k) = Fault k
+abbrev pub answer_of : Reading → Result Whole Fault
+answer_of (whole j) = Ok (record { n = j.n; cap = j.cap; entries = length j.columns })
+answer_of (fault k) = Err (record { line = k })
 
 -- the job's lists, none on a fault
 abbrev pub starts_in : Reading → List ℕ
@@ -130,12 +140,12 @@ pub record Kept (st₀ ro₀ : List ℕ) (va₀ ri₀ : List Float) (g : Reading
   pub right : ri ≡ held (length ri₀) +0 (right_in g)
 
 -- what a scan of a text leaves: its answer, and the areas of a job
-pub record Scanned (g : Reading) (r : Read) (st ro : List ℕ) (va ri : List Float) : Type 0 where
+pub record Scanned (g : Reading) (r : Result Whole Fault) (st ro : List ℕ) (va ri : List Float) : Type 0 where
   pub answer : r ≡ answer_of g
   pub kept : (j : Frames) → g ≡ whole j → Kept st ro va ri (whole j) st ro va ri
 
 -- what reading a job leaves: its answer, and the areas
-pub record Done (g : Reading) (r : Read) (st₀ ro₀ : List ℕ) (va₀ ri₀ : List Float) (st ro : List ℕ) (va ri : List Float) : Type 0 where
+pub record Done (g : Reading) (r : Result Whole Fault) (st₀ ro₀ : List ℕ) (va₀ ri₀ : List Float) (st ro : List ℕ) (va ri : List Float) : Type 0 where
   pub answer : r ≡ answer_of g
   pub kept : Kept st₀ ro₀ va₀ ri₀ g st ro va ri
 

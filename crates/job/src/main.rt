@@ -13,18 +13,12 @@ use std::io::{Read, Write};
 // As many bytes of a text as decide its answer: what follows them changes none.
 const TEXT_LIMIT: usize = 113555;
 
-fn least(a: usize, b: usize) -> usize
-    ensures { result ≡ min a b }
-{
-    if a < b { a } else { b }
-}
-
 // Answers a text of which the first k bytes were read into the buffer: all of them, or as many as it holds.
 fn answer_text(buffer: &[u8; TEXT_LIMIT], k: usize, out: &mut [u8; 2959]) -> usize
     ensures { (text : List ℕ) → ReadIn text buffer.now k → Works text out.entry.now (record { out = out.exit.now; bytes = result }) }
 {
     let bytes: &[u8] = buffer;
-    run_job(&bytes[..least(k, bytes.len())], out)
+    run_job(&bytes[..k.min(bytes.len())], out)
 }
 
 // Reads a text and writes its answer.

@@ -22,8 +22,9 @@ use Rattle.laws.specs.Jobs.{factored}
 use Rattle.laws.specs.Lent.{lent}
 use Rattle.factor.specs.Filled.{lent_all}
 use Rattle.frames.specs.Held.{reading_of, answer_of, Kept, Done}
-use Rattle.frames.specs.declared.Read.{Read}
-use Rattle.frames.specs.declared.Read.TheVariants.{Whole, Fault}
+use Rattle.frames.specs.declared.Whole.{Whole}
+use Rattle.frames.specs.declared.Fault.{Fault}
+use Rattle.std.specs.Prelude.{Result, Ok, Err}
 use Rattle.frames.proofs.Wholes.{whole_form, front_matrix, front_right}
 use Rattle.reply.specs.Made.{Made}
 
@@ -56,39 +57,36 @@ module _ {p f s g t top w y n v : ℕ} where
 
 -- ---- the reading
 
-pub read_fault : (t : List ℕ) (r : Read) (k : ℕ) → r ≡ answer_of (reading_of t) → r ≡ Fault k → refusal (WrongFrame k) ≡ job t
+pub read_fault : (t : List ℕ) (k : ℕ) → Err (record { line = k }) ≡ answer_of (reading_of t) → refusal (WrongFrame k) ≡ job t
 unfolding job written
-read_fault t r k e h = go (reading_of t) (sym h ∙ e)
+read_fault t k e = go (reading_of t) e
   where
-    go : (g : Reading) → Fault k ≡ answer_of g → refusal (WrongFrame k) ≡ written g
+    go : (g : Reading) → ◌≡◌ {A = Result Whole Fault} (Err (record { line = k })) (answer_of g) → refusal (WrongFrame k) ≡ written g
     go (whole j) q = absurd (let z : ◌≡◌ {A = ℕ} 0 1 = cc in omega arith)
-    go (fault i) q = let z : k ≡ i = cc in rw z
+    go (fault i) q = let s : ◌≡◌ {A = Fault} (record { line = k }) (record { line = i }) = cc in rw (ap (λ (f : Fault). f.line) s)
 
 -- a job that was read, in areas of a job's lengths
 pub record Gotten (t : List ℕ) (n cap entries : ℕ) (st ro : List ℕ) (va ri : List Float) : Type 0 where
   pub frames : Frames
   pub reads : reading_of t ≡ whole frames
-  pub few : n ≤ 128
-  pub stored : entries ≤ 4096
   pub matrix_is : matrix n (take (n + 1) st) (take entries ro) (take entries va) ≡ matrix_of frames
   pub cap_is : cap ≡ frames.cap
   pub right_is : take n ri ≡ frames.b
 
-pub gotten : (t : List ℕ) (r : Read) {st₀ ro₀ : List ℕ} {va₀ ri₀ : List Float} (n cap entries : ℕ) {st ro : List ℕ} {va ri : List Float} → Done (reading_of t) r st₀ ro₀ va₀ ri₀ st ro va ri → r ≡ Whole n cap entries → Gotten t n cap entries st ro va ri
-gotten t r {st₀} {ro₀} {va₀} {ri₀} n cap entries {st} {ro} {va} {ri} d h = go (reading_of t) refl (sym h ∙ d.answer) d.kept
+pub gotten : (t : List ℕ) {st₀ ro₀ : List ℕ} {va₀ ri₀ : List Float} (n cap entries : ℕ) {st ro : List ℕ} {va ri : List Float} → Done (reading_of t) (Ok (record { n = n; cap = cap; entries = entries })) st₀ ro₀ va₀ ri₀ st ro va ri → Gotten t n cap entries st ro va ri
+gotten t {st₀} {ro₀} {va₀} {ri₀} n cap entries {st} {ro} {va} {ri} d = go (reading_of t) refl d.answer d.kept
   where
-    go : (g : Reading) → reading_of t ≡ g → Whole n cap entries ≡ answer_of g → Kept st₀ ro₀ va₀ ri₀ g st ro va ri → Gotten t n cap entries st ro va ri
+    go : (g : Reading) → reading_of t ≡ g → ◌≡◌ {A = Result Whole Fault} (Ok (record { n = n; cap = cap; entries = entries })) (answer_of g) → Kept st₀ ro₀ va₀ ri₀ g st ro va ri → Gotten t n cap entries st ro va ri
     go (fault i) q e k = absurd (let z : ◌≡◌ {A = ℕ} 0 1 = cc in omega arith)
     go (whole j) q e k =
         let w = whole_form t j q in
-        let a : n ≡ j.n = cc in
-        let b : cap ≡ j.cap = cc in
-        let c : entries ≡ length j.columns = cc in
+        let s : ◌≡◌ {A = Whole} (record { n = n; cap = cap; entries = entries }) (record { n = j.n; cap = j.cap; entries = length j.columns }) = cc in
+        let a = ap (λ (x : Whole). x.n) s in
+        let b = ap (λ (x : Whole). x.cap) s in
+        let c = ap (λ (x : Whole). x.entries) s in
         record {
           frames = j;
           reads = q;
-          few = omega (arith, w.0.small);
-          stored = omega (arith, w.0.few);
           matrix_is = rw (a, c, add-one) (front_matrix j w.0 st₀ ro₀ va₀ ri₀ st ro va ri k);
           cap_is = b;
           right_is = rw a (front_right j w.0 st₀ ro₀ va₀ ri₀ st ro va ri k w.1);

@@ -1,31 +1,17 @@
 // A job, from its text to the text of its answer.
 #![tactic(auto)]
 
-ghost use Rattle.std.specs.Prelude.{◌≡◌, [], ◌≤◌, length};
+ghost use Rattle.std.specs.Prelude.{◌≡◌, ◌≤◌, length};
 ghost use Rattle.statement.specs.Input.{matrix};
 ghost use Rattle.statement.specs.Job.{Frames, whole, matrix_of, job_room, written, answer_in, Works};
-ghost use Rattle.statement.specs.declared.Order.TheVariants.{Plain};
-ghost use Rattle.statement.specs.declared.Stop.TheVariants.{End};
 ghost use Rattle.factor.specs.Filled.{lent_all};
 
 use factor::factor;
-use frames::{Read, read_job};
+use frames::read_job;
 use lines::put_refusal;
 use reply::answer;
 use statement::{Answer, Order, Stop};
 use update::none;
-
-fn plain_order() -> Order
-    ensures { result ≡ Plain }
-{
-    Order::Plain
-}
-
-fn no_stop() -> Stop
-    ensures { result ≡ End }
-{
-    Stop::End
-}
 
 // Factors a job's matrix in lent areas, and as many updates as 01 gives a job, and answers it.
 fn work_in(
@@ -34,7 +20,6 @@ fn work_in(
     input_rows: &[usize],
     input_values: &[f64],
     cap: usize,
-    list: &[usize],
     permutation: &mut [usize],
     firsts: &mut [usize],
     starts: &mut [usize],
@@ -49,21 +34,18 @@ fn work_in(
     out: &mut [u8; 2959],
 ) -> usize
     requires { length b.old ≤ 128 }
-    ensures { (j : Frames) → matrix n input_starts.now input_rows.now input_values.now ≡ matrix_of j → cap ≡ j.cap → list.now ≡ [] → lent_all (length permutation.old) (length firsts.old) (length starts.old) (length groups.old) (length tasks.old) (length top.old) (length words.old) (length floats.old) (length rows.old) job_room.updates (length values.old) ≡ job_room → b.old ≡ j.b → record { out = out.exit.now; bytes = result } ≡ answer_in (written (whole j)) out.entry.now }
+    ensures { (j : Frames) → matrix n input_starts.now input_rows.now input_values.now ≡ matrix_of j → cap ≡ j.cap → lent_all (length permutation.old) (length firsts.old) (length starts.old) (length groups.old) (length tasks.old) (length top.old) (length words.old) (length floats.old) (length rows.old) job_room.updates (length values.old) ≡ job_room → b.old ≡ j.b → record { out = out.exit.now; bytes = result } ≡ answer_in (written (whole j)) out.entry.now }
 {
-    let o = plain_order();
-    let e = no_stop();
-    let u = none();
-    let mut updates = [u; 8256];
+    let mut updates = [none(); 8256];
     let x = factor(
         n,
         input_starts,
         input_rows,
         input_values,
         cap,
-        o,
-        list,
-        e,
+        Order::Plain,
+        &[],
+        Stop::End,
         permutation,
         firsts,
         starts,
@@ -119,7 +101,6 @@ fn work(
         input_rows,
         input_values,
         cap,
-        &input_rows[..0],
         &mut permutation,
         &mut firsts,
         &mut starts,
@@ -143,17 +124,16 @@ pub fn run_job(text: &[u8], out: &mut [u8; 2959]) -> usize
     let mut rows = [0; 4096];
     let mut values = [0.0; 4096];
     let mut right = [0.0; 128];
-    let r = read_job(text, &mut starts, &mut rows, &mut values, &mut right);
-    match r {
-        Read::Whole { n, cap, entries } => work(
-            n,
-            &starts[..n + 1],
-            &rows[..entries],
-            &values[..entries],
-            cap,
-            &mut right[..n],
+    match read_job(text, &mut starts, &mut rows, &mut values, &mut right) {
+        Ok(job) => work(
+            job.n,
+            &starts[..job.n + 1],
+            &rows[..job.entries],
+            &values[..job.entries],
+            job.cap,
+            &mut right[..job.n],
             out,
         ),
-        Read::Fault { line } => put_refusal(out, Answer::WrongFrame { line: line }),
+        Err(fault) => put_refusal(out, Answer::WrongFrame { line: fault.line }),
     }
 }

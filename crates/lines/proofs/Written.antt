@@ -8,12 +8,12 @@ use Prim.Native.Nat.{ℕ, zero, suc, ◌+◌, ◌-◌, ◌*◌, ◌/◌, ◌%◌
 use native.Mathlib.Nat.{not-suc-le-zero, le_of_suc-le-suc, mod-eq_of_lt, mul_assoc, add-mul}
 use native.Mathlib.Numerals.{add-one}
 use native.Mathlib.Omega.{arith}
-use borrow.Author.Tests.{le-leb, lt-leb, eq-eqb, ltb-true, ltb-false}
+use borrow.Author.Tests.{le-leb, lt-leb, ltb-true, ltb-false}
 use lib.Dec.{T, ltb}
 use lib.Pow.{pow-add, mod-pow-add}
 use lib.ListN.{length, get_or, take, drop, set, length-append, take-append-drop}
 use lib.Seq.{paste, paste-suc, take_all, take_at, drop_at, drop-drop, set_split, length-take-le}
-use lib.Ieee.{Float, nan, inf, fin, binary64, ne, eq, to_bits, of_bits, fits, level, up, down}
+use lib.Ieee.{Float, nan, inf, fin, binary64, is_nan, to_bits, of_bits, fits}
 use lib.Ieee.Bits.{of_bits-to_bits, to_bits-lt}
 use Rattle.statement.specs.Lists.{joined}
 use Rattle.statement.specs.Input.{+0}
@@ -147,16 +147,11 @@ float_back x f = (read_back 16 (to_bits binary64 x) (to_bits-lt binary64 x f), o
 
 -- ---- a float's pattern
 
-level_self : (s : Bool) (n : ℕ) → level s n s n ≡ true
-level_self true n = rw (eq-eqb n n refl)
-level_self false n = rw (eq-eqb n n refl)
-
-pub nan_differs : (x : Float) → ne x x ≡ true → 0x7ff8_0000_0000_0000 ≡ to_bits binary64 x
-unfolding ne eq to_bits
-nan_differs nan h = refl
-nan_differs (inf true) h = cc
-nan_differs (inf false) h = cc
-nan_differs (fin s m e) h = let l = level_self s (m * up e * down e) in let z : ◌≡◌ {A = Bool} false true = rw l at h in cc
+pub nan_bits : (x : Float) → is_nan x ≡ true → 0x7ff8_0000_0000_0000 ≡ to_bits binary64 x
+unfolding to_bits is_nan
+nan_bits nan h = refl
+nan_bits (inf s) h = cc
+nan_bits (fin s m e) h = cc
 
 -- ---- a whole answer
 
@@ -184,35 +179,24 @@ unfolding success
 success_length entries supernodes x = length-append (sizes_line entries supernodes) (unknowns x (length x)) ∙ (let a = sizes_length entries supernodes in let b = unknowns_length x (length x) in omega arith)
 
 -- the lines of the first k unknowns follow 15 bytes
-pub record Writing (out₀ : List ℕ) (x : List Float) (out : List ℕ) (at k : ℕ) : Type 0 where
-  pub is : out ≡ placed out₀ 15 (unknowns x k)
-  pub place : at ≡ 15 + 23 * k
-  pub to : k ≤ length x
-  pub len : length out ≡ length out₀
-  pub room : 15 + 23 * length x ≤ length out₀
+abbrev pub Writing : List ℕ → List Float → List ℕ → ℕ → Type 0
+Writing out₀ x out k = out ≡ placed out₀ 15 (unknowns x k)
 
-pub writing_start : (d : List ℕ) (x : List Float) → 15 + 23 * length x ≤ length d → Writing d x d 15 0
+pub writing_start : (d : List ℕ) (x : List Float) → Writing d x d 0
 unfolding placed joined
-writing_start d x h = record { is = sym (take-append-drop 15 d); place = omega arith; to = omega arith; len = refl; room = h }
+writing_start d x = sym (take-append-drop 15 d)
 
-pub writing_more : (d : List ℕ) (x : List Float) (out : List ℕ) (at k : ℕ) (t : List ℕ) (z : Float) → Writing d x out at k → k < length x
-    → t ≡ placed out at (unknown_line (record { 0 = k }) (get_or x k z)) → length t ≡ length out → Writing d x t (at + 23) (k + 1)
+pub writing_more : (d : List ℕ) (x : List Float) (out : List ℕ) (k : ℕ) (t : List ℕ) (z : Float) → Writing d x out k → k < length x → 15 + 23 * length x ≤ length d
+    → t ≡ placed out (15 + 23 * k) (unknown_line (record { 0 = k }) (get_or x k z)) → Writing d x t (k + 1)
 unfolding joined
-writing_more d x out at k t z w h e l =
+writing_more d x out k t z w h room e =
     let n = unknowns_length x k in
-    record {
-      is = rw (add-one k) (placed_more d out t (unknowns x k) (unknown_line (record { 0 = k }) (get_or x k +0)) 15 at w.is (omega (arith, w.place)) (omega (arith, w.place, w.room)) (e ∙ ap (λ y. placed out at (unknown_line (record { 0 = k }) y)) (get_d_any x k z +0 h)));
-      place = omega (arith, w.place);
-      to = omega arith;
-      len = l ∙ w.len;
-      room = w.room;
-    }
+    rw (add-one k) (placed_more d out t (unknowns x k) (unknown_line (record { 0 = k }) (get_or x k +0)) 15 (15 + 23 * k) w (omega arith) (omega arith) (e ∙ ap (λ y. placed out (15 + 23 * k) (unknown_line (record { 0 = k }) y)) (get_d_any x k z +0 h)))
 
-pub writing_done : (d₀ d : List ℕ) (x : List Float) (out : List ℕ) (at k entries supernodes : ℕ) → Writing d x out at k → length x ≤ k
-    → d ≡ placed d₀ 0 (sizes_line entries supernodes) → length d ≡ length d₀ → (out ≡ placed d₀ 0 (success entries supernodes x)) × (at ≡ length (success entries supernodes x))
+pub writing_done : (d₀ d : List ℕ) (x : List Float) (out : List ℕ) (k entries supernodes : ℕ) → Writing d x out k → k ≡ length x → 15 ≤ length d₀
+    → d ≡ placed d₀ 0 (sizes_line entries supernodes) → (out ≡ placed d₀ 0 (success entries supernodes x)) × (15 + 23 * length x ≡ length (success entries supernodes x))
 unfolding success
-writing_done d₀ d x out at k entries supernodes w h e l =
+writing_done d₀ d x out k entries supernodes w q room e =
     let n = sizes_length entries supernodes in
-    let q : k ≡ length x = omega (arith, w.to) in
-    let f : out ≡ placed d 15 (unknowns x (length x)) = w.is ∙ ap (λ (t : ℕ). placed d 15 (unknowns x t)) q in
-    (placed_more d₀ d out (sizes_line entries supernodes) (unknowns x (length x)) 0 15 e (omega arith) (omega (arith, w.room)) f, (let s = success_length entries supernodes x in omega (arith, w.place)))
+    let f : out ≡ placed d 15 (unknowns x (length x)) = w ∙ ap (λ (t : ℕ). placed d 15 (unknowns x t)) q in
+    (placed_more d₀ d out (sizes_line entries supernodes) (unknowns x (length x)) 0 15 e (omega arith) room f, sym (success_length entries supernodes x))

@@ -11,14 +11,16 @@ use answers::{first_detail, number, second_detail};
 use statement::{Answer, Original};
 
 // The byte of a digit.
+#[tactic(auto, unfolding(statement::specs::Job::hex_digit))]
 fn hex_digit(d: u64) -> u8
     requires { d < 16 }
     ensures { result ≡ hex_digit d }
 {
     if d < 10 {
-        return 48 + d as u8;
+        b'0' + d as u8
+    } else {
+        b'A' + (d - 10) as u8
     }
-    55 + d as u8
 }
 
 // Puts k digits of x at the places from `at`, highest first.
@@ -26,11 +28,9 @@ pub fn put_hex(out: &mut [u8], at: usize, k: usize, x: u64)
     requires { (at + k ≤ length out.old) × (k ≤ 16) }
     ensures { out.new ≡ placed out.old at (hex k x) }
 {
-    let mut i: usize = 0;
-    while i < k {
+    for i in 0..k {
         let s = 4 * (k - 1 - i);
         out[at + i] = hex_digit((x >> s) % 16);
-        i += 1;
     }
 }
 
@@ -38,10 +38,10 @@ pub fn put_hex(out: &mut [u8], at: usize, k: usize, x: u64)
 pub fn bits_of(x: f64) -> u64
     ensures { result ≡ to_bits binary64 x }
 {
-    if x != x {
+    if x.is_nan() {
         return 0x7ff8_0000_0000_0000;
     }
-    f64::to_bits(x)
+    x.to_bits()
 }
 
 // Puts the line `81` at the start: 15 bytes.
@@ -96,12 +96,8 @@ pub fn put_success(out: &mut [u8], entries: usize, supernodes: usize, x: &[f64])
     ensures { (out.new ≡ placed out.old 0 (success entries supernodes x.now)) × (result ≡ length (success entries supernodes x.now)) }
 {
     put_sizes(out, entries as u64, supernodes as u64);
-    let mut at: usize = 15;
-    let mut k: usize = 0;
-    while k < x.len() {
-        put_unknown(out, at, Original(k), x[k]);
-        at += 23;
-        k += 1;
+    for k in 0..x.len() {
+        put_unknown(out, 15 + 23 * k, Original(k), x[k]);
     }
-    at
+    15 + 23 * x.len()
 }

@@ -2,7 +2,7 @@
 // and what is written.
 #![tactic(auto)]
 
-ghost use Rattle.std.specs.Prelude.{◌≤◌, ◌<◌, length, take, IfOk};
+ghost use Rattle.std.specs.Prelude.{◌≤◌, ◌<◌, length, take, IfOk, IfSome};
 ghost use Rattle.std.specs.Io.KnownBytes.{Consumes, IsAtEnd};
 
 use std::io;
@@ -29,6 +29,7 @@ pub fn read_full<R: Read>(input: &mut R, buffer: &mut [u8]) -> io::Result<usize>
     ensures end { IfOk result (λ n. n < length buffer.new → IsAtEnd (R.remaining input.new)) }
 {
     let mut done = 0;
+    // no `for`: a read says itself how far it gets
     while done < buffer.len() {
         let n = input.read(&mut buffer[done..])?;
         if n == 0 {
@@ -39,65 +40,47 @@ pub fn read_full<R: Read>(input: &mut R, buffer: &mut [u8]) -> io::Result<usize>
     Ok(done)
 }
 
-// The number of a digit, and 10 for any other byte.
-fn digit(b: u8) -> usize
-    ensures { result ≤ 10 }
-{
-    if b < b'0' {
-        return 10;
-    }
-    if b > b'9' {
-        return 10;
-    }
-    (b - b'0') as usize
-}
-
-// The number whose digits begin at a place; of one that does not fit it takes the first digits.
-fn word_at(text: &[u8], at: usize) -> Word
-    requires { at ≤ length text.now }
-    ensures { (at ≤ result.end) × (result.end ≤ length text.now) }
+// The number whose digits begin at a place, where a byte stands after them; one that may not fit is none.
+fn word_at(text: &[u8], at: usize) -> Option<Word>
+    ensures { IfSome result (λ w. (at < w.end) × (w.end < length text.now)) }
 {
     let mut value = 0;
-    let mut i = at;
-    while i < text.len() && digit(text[i]) < 10 && value < 1844674407370955161 {
-        value = value * 10 + digit(text[i]);
-        i += 1;
+    for end in at..text.len() {
+        let Some(d) = (text[end] as char).to_digit(10) else {
+            return (at < end).then_some(Word { value, end });
+        };
+        if value >= usize::MAX / 10 {
+            return None;
+        }
+        value = value * 10 + d as usize;
     }
-    Word { value, end: i }
+    None
 }
 
-// Reads the line that begins at a place: numbers one space apart, and LF. Any other line has no numbers, and is the last.
-pub fn numbers(text: &[u8], at: usize, to: &mut [usize]) -> Line
-    requires { at < length text.now }
-    ensures { (at < result.end) × (result.end ≤ length text.now) × (result.count ≤ length to.new) }
+// Reads the line that begins at a place: numbers one space apart, and LF. Any other line has no numbers.
+pub fn numbers(text: &[u8], at: usize, to: &mut [usize]) -> Option<Line>
+    ensures { IfSome result (λ line. (at < line.end) × (line.end ≤ length text.now) × (line.count ≤ length to.new)) }
 {
-    let mut count = 0;
     let mut i = at;
-    while i < text.len() && count < to.len() {
-        let w = word_at(text, i);
-        let end = w.end;
-        if end == i || end == text.len() {
-            break;
-        }
-        to[count] = w.value;
-        count += 1;
-        i = end + 1;
-        if text[end] == b'\n' {
-            return Line { count, end: i };
-        }
-        if text[end] != b' ' {
-            break;
+    for k in 0..to.len() {
+        let w = word_at(text, i)?;
+        to[k] = w.value;
+        i = w.end + 1;
+        match text[w.end] {
+            b' ' => {}
+            b'\n' => return Some(Line {
+                count: k + 1,
+                end: i,
+            }),
+            _ => return None,
         }
     }
-    Line {
-        count: 0,
-        end: text.len(),
-    }
+    None
 }
 
 // The sum with one word more.
 pub fn added(h: u64, x: u64) -> u64 {
-    ((h << 1) | (h >> 63)) ^ x
+    h.rotate_left(1) ^ x
 }
 
 pub fn say(rt: &impl Print, text: &[u8]) -> io::Result<()> {

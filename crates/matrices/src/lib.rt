@@ -1,9 +1,9 @@
 // The matrices that the lines of a list say, for the program `widths`.
 #![tactic(auto)]
 
-use areas::copy_part;
 use frames::to_float;
-use std::num::{nearest_u64_to_f64, wrapping_add_usize};
+use statement::Order;
+use std::num::nearest_usize_to_f64;
 
 // How many columns a matrix has, and how many stored rows.
 #[derive(Clone, Copy)]
@@ -12,113 +12,115 @@ pub struct Size {
     pub a: usize,
 }
 
-// The value at (i, k) of a dense matrix of the first kind or the second.
-fn dense_value(second: bool, i: usize, k: usize) -> f64 {
-    if !second {
-        if i == k {
-            return 1024.0;
+// The two dense matrices.
+#[derive(Clone, Copy)]
+pub enum Dense {
+    Ones,
+    Fractions,
+}
+
+// What a line says: a matrix, or a run of the last one.
+#[derive(Clone, Copy)]
+pub enum Kind {
+    Stored,
+    Dense(Dense),
+    Run(Order),
+}
+
+impl From<usize> for Kind {
+    fn from(word: usize) -> Kind {
+        match word {
+            0 => Kind::Stored,
+            1 => Kind::Dense(Dense::Ones),
+            2 => Kind::Dense(Dense::Fractions),
+            3 => Kind::Run(Order::Plain),
+            _ => Kind::Run(Order::Listed),
         }
-        return 1.0;
     }
-    if i == k {
-        return 2.0 + nearest_u64_to_f64(k as u64) / 8.0;
+}
+
+// The value at (i, k) of a dense matrix.
+fn dense_value(dense: Dense, i: usize, k: usize) -> f64 {
+    match dense {
+        Dense::Ones if i == k => 1024.0,
+        Dense::Ones => 1.0,
+        Dense::Fractions if i == k => 2.0 + nearest_usize_to_f64(k) / 8.0,
+        Dense::Fractions => {
+            1.0 / nearest_usize_to_f64(k.wrapping_mul(3).wrapping_add(i).wrapping_add(1))
+        }
     }
-    let three = wrapping_add_usize(wrapping_add_usize(k, k), k);
-    1.0 / nearest_u64_to_f64(wrapping_add_usize(wrapping_add_usize(1, i), three) as u64)
 }
 
 // Puts column k of a dense matrix from a place on, and says where it ends.
-fn put_column(second: bool, k: usize, at: usize, rows: &mut [usize], values: &mut [f64]) -> usize {
-    let mut i: usize = 0;
-    let mut to = at;
-    while i <= k && to < rows.len() && to < values.len() {
-        rows[to] = i;
-        values[to] = dense_value(second, i, k);
-        to += 1;
-        i += 1;
+fn put_column(dense: Dense, k: usize, at: usize, rows: &mut [usize], values: &mut [f64]) -> usize {
+    let end = at
+        .saturating_add(k.saturating_add(1))
+        .min(rows.len())
+        .min(values.len());
+    for to in at..end {
+        rows[to] = to - at;
+        values[to] = dense_value(dense, to - at, k);
     }
-    to
+    end.max(at)
 }
 
 fn put_dense(
-    second: bool,
+    dense: Dense,
     n: usize,
     starts: &mut [usize],
     rows: &mut [usize],
     values: &mut [f64],
 ) -> Size {
-    let mut a: usize = 0;
-    let mut k: usize = 0;
-    while k < n && k < starts.len() {
+    let n = n.min(starts.len());
+    let mut a = 0;
+    for k in 0..n {
         starts[k] = a;
-        a = put_column(second, k, a, rows, values);
-        k += 1;
+        a = put_column(dense, k, a, rows, values);
     }
-    if k < starts.len() {
-        starts[k] = a;
+    if n < starts.len() {
+        starts[n] = a;
     }
-    Size { n: k, a: a }
-}
-
-// Puts the floats of bit patterns.
-fn put_floats(bits: &[usize], to: &mut [f64]) {
-    let mut i: usize = 0;
-    while i < bits.len() && i < to.len() {
-        to[i] = to_float(bits[i] as u64);
-        i += 1;
-    }
+    Size { n, a }
 }
 
 // Puts a matrix as a line has it: 0, n, a, the starts, the rows, the bits of the values.
 fn put_stored(
     line: &[usize],
-    old: Size,
     starts: &mut [usize],
     rows: &mut [usize],
     values: &mut [f64],
-) -> Size {
-    if line.len() < 3 {
-        return old;
-    }
-    let n = line[1];
-    let a = line[2];
-    if n >= starts.len() {
-        return old;
-    }
-    if a > rows.len() {
-        return old;
+) -> Option<Size> {
+    let n = *line.get(1)?;
+    let a = *line.get(2)?;
+    if n >= starts.len() || a > rows.len() {
+        return None;
     }
     let r = n + 4;
     let v = r + a;
     if line.len() != v + a {
-        return old;
+        return None;
     }
-    copy_part(n + 1, &line[3..r], starts);
-    copy_part(a, &line[r..v], rows);
-    put_floats(&line[v..], values);
-    Size { n: n, a: a }
+    starts[..n + 1].copy_from_slice(&line[3..r]);
+    rows[..a].copy_from_slice(&line[r..v]);
+    for (x, bits) in values.iter_mut().zip(&line[v..]) {
+        *x = to_float(*bits as u64);
+    }
+    Some(Size { n, a })
 }
 
-// The matrix that a line of the kinds 0, 1 and 2 puts in the place of the old one; a line of another kind leaves it.
+// Puts the matrix that a line says in the place of the last one. A line that says none leaves it.
 pub fn matrix(
     line: &[usize],
-    old: Size,
     starts: &mut [usize],
     rows: &mut [usize],
     values: &mut [f64],
-) -> Size {
-    if line.len() == 0 {
-        return old;
+) -> Option<Size> {
+    match Kind::from(*line.first()?) {
+        Kind::Stored => put_stored(line, starts, rows, values),
+        Kind::Dense(dense) => {
+            let n = *line.get(1)?;
+            Some(put_dense(dense, n, starts, rows, values))
+        }
+        Kind::Run(_) => None,
     }
-    let kind = line[0];
-    if kind == 0 {
-        return put_stored(line, old, starts, rows, values);
-    }
-    if kind > 2 {
-        return old;
-    }
-    if line.len() < 2 {
-        return old;
-    }
-    put_dense(kind == 2, line[1], starts, rows, values)
 }

@@ -4,43 +4,19 @@
 #![tactic(auto)]
 
 use anyhow::{Context, Result};
+use frame::value;
 use jobs::run_job;
 use lines::put_hex;
 use lists::{read_full, say};
 use std::io;
 use std::io::Read;
 
-// The number of an uppercase hexadecimal digit, and 16 for any other byte.
-fn digit(b: u8) -> usize {
-    if b < b'0' {
-        return 16;
-    }
-    if b <= b'9' {
-        return (b - b'0') as usize;
-    }
-    if b < b'A' {
-        return 16;
-    }
-    if b <= b'F' {
-        return (b - b'7') as usize;
-    }
-    16
-}
-
-// The length that an item's first line says, and usize::MAX where it says none.
-fn length(line: &[u8; 9]) -> usize {
-    let mut value = 0;
-    for i in 0..8 {
-        let d = digit(line[i]);
-        if d == 16 {
-            return usize::MAX;
-        }
-        value = (value << 4) | d;
-    }
+// The length that an item's first line says, where it says one.
+fn length(line: &[u8; 9]) -> Option<usize> {
     if line[8] != b'\n' {
-        return usize::MAX;
+        return None;
     }
-    value
+    Some(value(&line[..8])? as usize)
 }
 
 fn cannot_stand(rt: &impl Eprint) -> Result<bool> {
@@ -90,7 +66,10 @@ fn answer_next(rt: &(impl Print + Eprint), input: &mut impl Read) -> Result<bool
         return Ok(false);
     }
     let mut text = [0u8; 131072];
-    answer_rest(rt, input, &mut text, length(&line))
+    match length(&line) {
+        Some(k) => answer_rest(rt, input, &mut text, k),
+        None => cannot_stand(rt),
+    }
 }
 
 // A proved loop has to end, and nothing says that the input does.

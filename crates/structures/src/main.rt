@@ -3,8 +3,6 @@
 // has more than 8,192 numbers, ends the program.
 #![tactic(auto)]
 
-ghost use Rattle.std.specs.Prelude.{◌≤◌};
-
 mod sums;
 
 use analyse::analyse;
@@ -13,14 +11,13 @@ use lines::put_hex;
 use lists::{numbers, read_full, say};
 use statement::Outcome;
 use std::io;
-use std::num::wrapping_add_usize;
 use sums::{sum, sum_updates};
 use update::none;
 
 // Each number in 16 digits, one space apart.
 fn print_line(rt: &impl Print, words: &[u64; 16]) -> io::Result<()> {
     let mut out = [b' '; 272];
-    for k in 0..16 {
+    for k in 0..words.len() {
         put_hex(&mut out, 17 * k, 16, words[k]);
     }
     out[271] = b'\n';
@@ -42,7 +39,7 @@ fn print(
 ) -> io::Result<()> {
     let a = x.answer;
     let r = x.record;
-    let ends = wrapping_add_usize(r.supernodes, 1);
+    let ends = r.supernodes.wrapping_add(1);
     let words = [
         number(a) as u64,
         r.supernodes as u64,
@@ -58,21 +55,10 @@ fn print(
         sum(rows, r.rows),
         sum(groups, ends),
         updates,
-        sum(tasks, wrapping_add_usize(r.tasks, r.tasks)),
+        sum(tasks, r.tasks.wrapping_mul(2)),
         sum(top, r.top),
     ];
     print_line(rt, &words)
-}
-
-// How many updates there are, or `most` where there are more.
-fn count(x: Outcome, most: usize) -> usize
-    ensures { result ≤ most }
-{
-    let r = x.record;
-    if r.updates < most {
-        return r.updates;
-    }
-    most
 }
 
 // Analyses a matrix, in lent areas and as many updates as every matrix of the list needs.
@@ -91,8 +77,7 @@ fn answer_in(
     words: &mut [usize],
     rows: &mut [usize],
 ) -> io::Result<()> {
-    let u = none();
-    let mut updates = [u; 65536];
+    let mut updates = [none(); 65536];
     let x = analyse(
         n,
         input_starts,
@@ -109,8 +94,7 @@ fn answer_in(
         rows,
         &mut updates,
     );
-    let c = count(x, 65536);
-    let s = sum_updates(&updates, c);
+    let s = sum_updates(&updates, x.record.updates);
     print(
         rt,
         x,
@@ -165,10 +149,7 @@ fn is_answered(rt: &impl Print, line: &[usize], values: &[f64]) -> io::Result<bo
     }
     let n = line[0];
     let a = line[1];
-    if n > line.len() {
-        return Ok(false);
-    }
-    if a > values.len() {
+    if n > line.len() || a > values.len() {
         return Ok(false);
     }
     let m = n + 3;
@@ -184,10 +165,8 @@ fn answer_all(rt: &impl Print, text: &[u8]) -> io::Result<()> {
     let values = [0.0; 8192];
     let mut list = [0; 8192];
     let mut at = 0;
-    while at < text.len() {
-        let l = numbers(text, at, &mut list);
-        let count = l.count;
-        if !is_answered(rt, &list[..count], &values)? {
+    while let Some(l) = numbers(text, at, &mut list) {
+        if !is_answered(rt, &list[..l.count], &values)? {
             break;
         }
         at = l.end;

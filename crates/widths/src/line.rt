@@ -2,25 +2,12 @@
 use answers::{first_detail, number, second_detail};
 use lines::bits_of;
 use lists::added;
-use statement::{Answer, Outcome, Stage};
+use statement::{Answer, Outcome};
 use std::io;
 
 // The sum of the bits of the first m, or of all where there are fewer.
 pub fn sum(list: &[f64], m: usize) -> u64 {
-    let mut h = 0;
-    for x in list.iter().take(m) {
-        h = added(h, bits_of(*x));
-    }
-    h
-}
-
-fn state_number(state: Stage) -> usize {
-    match state {
-        Stage::Empty => 0,
-        Stage::Analysed => 1,
-        Stage::Partial => 2,
-        Stage::Full => 3,
-    }
+    list.iter().take(m).fold(0, |h, x| added(h, bits_of(*x)))
 }
 
 // Number, details, state, supernodes, entries, the values' sum; the number that solve answers, and the solution's sum.
@@ -32,7 +19,7 @@ pub fn print(rt: &impl Print, x: Outcome, l: u64, solved: Answer, b: u64) -> io:
         number(a),
         first_detail(a),
         second_detail(a),
-        state_number(r.state),
+        r.state as usize,
         r.supernodes,
         r.entries,
         number(solved)

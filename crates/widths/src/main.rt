@@ -3,24 +3,22 @@
 // that is no list of numbers, or has more than 4,096, ends the program.
 #![tactic(auto)]
 
-ghost use Rattle.std.specs.Prelude.{◌≡◌, ◌<◌, ◌≤◌, true};
-
 mod line;
 
 use factor::factor;
 use line::{print, sum};
 use lists::{numbers, read_full};
-use matrices::{Size, matrix};
+use matrices::{Kind, Size, matrix};
 use solve::solve;
 use statement::{Order, Outcome, Stop};
 use std::io;
-use std::num::nearest_u64_to_f64;
+use std::num::nearest_usize_to_f64;
 use update::none;
 
 // The right sides: b(i) = i + 1 over all of them, so that no two are the same.
 fn put_sides(b: &mut [f64]) {
     for i in 0..b.len() {
-        b[i] = nearest_u64_to_f64((i + 1) as u64);
+        b[i] = nearest_usize_to_f64(i + 1);
     }
 }
 
@@ -76,8 +74,7 @@ fn run_in(
     values: &mut [f64],
     b: &mut [f64],
 ) -> io::Result<()> {
-    let u = none();
-    let mut updates = [u; 16384];
+    let mut updates = [none(); 16384];
     let x = factor(
         n,
         input_starts,
@@ -158,42 +155,18 @@ fn run(
     )
 }
 
-fn order_of(kind: usize) -> Order {
-    if kind == 3 {
-        return Order::Plain;
-    }
-    Order::Listed
-}
-
+// 0 is the end, and t + 1 a stop after t.
 fn stop_of(x: usize) -> Stop {
-    if x == 0 {
-        return Stop::End;
+    match x {
+        0 => Stop::End,
+        x => Stop::After(x - 1),
     }
-    Stop::After(x - 1)
 }
 
-// Whether a matrix and a line are as long as what holds them.
-fn lendable(n: usize, a: usize, starts: usize, rows: usize, values: usize, line: usize) -> bool
-    ensures { result ≡ true → (n < starts) × (n ≤ 512) × (a ≤ rows) × (a ≤ values) × (2 ≤ line) }
-{
-    if n >= starts {
-        return false;
-    }
-    if n > 512 {
-        return false;
-    }
-    if a > rows {
-        return false;
-    }
-    if a > values {
-        return false;
-    }
-    line >= 2
-}
-
-// Runs the matrix as a line of the kinds 3 and 4 says: the kind, where to stop, the list.
+// Runs the matrix as a line says: the kind, where to stop, the list.
 fn run_line(
     rt: &impl Print,
+    order: Order,
     line: &[usize],
     size: Size,
     starts: &[usize],
@@ -201,22 +174,17 @@ fn run_line(
     values: &[f64],
 ) -> io::Result<()> {
     let mut b = [0.0; 1536];
-    let n = size.n;
-    let a = size.a;
-    if !lendable(n, a, starts.len(), rows.len(), values.len(), line.len()) {
-        return Ok(());
-    }
-    let kind = line[0];
-    if kind < 3 {
+    let Size { n, a } = size;
+    if n >= starts.len() || n > 512 || a > rows.len() || a > values.len() || line.len() < 2 {
         return Ok(());
     }
     run(
         rt,
         n,
-        &starts[0..n + 1],
-        &rows[0..a],
-        &values[0..a],
-        order_of(kind),
+        &starts[..n + 1],
+        &rows[..a],
+        &values[..a],
+        order,
         &line[2..],
         stop_of(line[1]),
         &mut b[..3 * n],
@@ -225,17 +193,19 @@ fn run_line(
 
 // Takes each line in its turn.
 fn answer_all(rt: &impl Print, text: &[u8]) -> io::Result<()> {
-    let mut line = [0; 4096];
+    let mut list = [0; 4096];
     let mut starts = [0; 512];
     let mut rows = [0; 16384];
     let mut values = [0.0; 16384];
     let mut size = Size { n: 0, a: 0 };
-    let mut at: usize = 0;
-    while at < text.len() {
-        let l = numbers(text, at, &mut line);
-        let count = l.count;
-        size = matrix(&line[..count], size, &mut starts, &mut rows, &mut values);
-        run_line(rt, &line[..count], size, &starts, &rows, &values)?;
+    let mut at = 0;
+    while let Some(l) = numbers(text, at, &mut list) {
+        let line = &list[..l.count];
+        if let Some(Kind::Run(order)) = line.first().map(|word| Kind::from(*word)) {
+            run_line(rt, order, line, size, &starts, &rows, &values)?;
+        } else if let Some(put) = matrix(line, &mut starts, &mut rows, &mut values) {
+            size = put;
+        }
         at = l.end;
     }
     Ok(())

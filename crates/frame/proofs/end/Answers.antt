@@ -1,24 +1,21 @@
--- `frame::end` meets its contract, by the kind's two digits. Assumes nothing.
-use mathlib.Core.Path.{sym, ◌∙◌}
-use native.Mathlib.Nat.{div-one}
-use native.Mathlib.Omega.{arith}
-use borrow.Author.Tests.{eq-eqb, ne_eqb}
-use Rattle.statement.specs.Job.{frame}
-use Rattle.frame.proofs.Digits.{field_first}
+-- `frame::end` meets its contract, by whether its digits stand for 4. Assumes nothing.
+use Rattle.std.proofs.Common.{◌≡◌, Bool, true, false, cond, refl, sym, ◌∙◌, eqb}
+use Rattle.std.proofs.Math.Option.{none, some}
+use Rattle.std.specs.Bool.{then_some}
+use Rattle.statement.specs.Job as job
+use Rattle.statement.specs.Job.{frame, frame_of}
+use Rattle.frame.specs.Line.{meant}
+use Rattle.frame.specs.declared.Frame.TheVariants.{End}
 use Rattle.frame.proofs.end.Goals as goal
 
-pub returns-then-field_at-ne4 : goal.returns-then-field_at-ne4
-unfolding frame
-returns-then-field_at-ne4 c = λ x e.
-    let b = c.before.before.before in
-    let n = b.requires in
-    let f = c.field_at.ensures x 0 e (omega (arith, n)) ∙ field_first b.args.line.now x e 0 2 0 (omega (arith, n)) (omega arith) ∙ div-one x in
-    rw (ne_eqb x 4 (λ z. c.if-field_at-ne4.true (f ∙ z)))
+ending : (b : Bool) → meant (then_some b End) ≡ cond b (some job.end) none
+ending true = refl
+ending false = refl
+
+pub returns-in_err-value : goal.returns-in_err-value
+unfolding frame_of
+returns-in_err-value c = rw (c.from_residual.ensures, sym c.in_err-value.ensures, frame_of) refl
 
 pub returns : goal.returns
-unfolding frame
-returns c = λ x e.
-    let b = c.before.before.before in
-    let n = b.requires in
-    let f = c.field_at.ensures x 0 e (omega (arith, n)) ∙ field_first b.args.line.now x e 0 2 0 (omega (arith, n)) (omega arith) ∙ div-one x in
-    rw (eq-eqb x 4 (sym f ∙ c.if-field_at-ne4.false))
+unfolding frame_of frame
+returns c = rw c.then_some.ensures (ending (eqb c.in_ok-value.field-0 4) ∙ rw (sym c.in_ok-value.ensures, frame_of, c.requires) refl)

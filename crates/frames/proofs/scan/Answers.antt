@@ -1,45 +1,55 @@
-use Prim.Native.Nat.{◌-◌, ◌≤◌}
-use native.Mathlib.Omega.{arith}
-use lib.ListN.{length}
-use Rattle.frames.proofs.Going.{going_start, end_within, cut_scanned, stop_scanned, going_next, done_scanned, short_scanned}
+use Rattle.std.proofs.Common.{◌≡◌, arith, ap, refl, Option, None, Some, Result, Err}
+use Rattle.std.proofs.lemmas.Result.{err_from_is_err_and}
+use Rattle.std.specs.Option.{ok_or}
+use Rattle.frames.specs.declared.Fault.{Fault}
+use Rattle.frames.specs.declared.Phase.{Phase}
+use Rattle.frames.specs.declared.Phase.TheVariants.{Unbegun, Storing, Siding, Ended}
+use Rattle.frames.specs.Held.{rank}
+use Rattle.frames.proofs.Going.{going_start, cut_scanned, stop_scanned, going_next, done_scanned, short_scanned}
 use Rattle.frames.proofs.scan.Goals as goal
+
+-- the fault that is told where there is nothing else
+told : {A : Type 0} (o : Option A) {x y : Fault} → o ≡ None → ◌≡◌ {A = Result A Fault} (Err x) (ok_or o y) → x ≡ y
+told None e h = cc
+told (Some a) e h = cc
+
+last_phase : (x : Phase) → rank x ≡ 3 → x ≡ Ended
+last_phase Unbegun h = absurd (omega arith)
+last_phase Storing h = absurd (omega arith)
+last_phase Siding h = absurd (omega arith)
+last_phase Ended h = refl
 
 pub loop-at-init : goal.loop-at-init
 loop-at-init c = going_start _ _ _ _ _ _ c.unbegun-p.ensures c.requires.0 c.requires.1
 
-pub returns-then-e-text : goal.returns-then-e-text
-returns-then-e-text c = cut_scanned _ _ _ _ _ _ _ _ _ _ _ _ _ c.loop-at.invariant c.line_end-e.ensures c.loop-at-test.true (omega arith)
+pub returns-in_err-end : goal.returns-in_err-end
+returns-in_err-end c =
+    let p = err_from_is_err_and c.from_residual.result c.from_residual.ensures.1 in
+    let e = c.in_err-end.ensures in
+    let n = rw e.ok_part at c.line_end.ensures.none in
+    rw (p.1, p.2, told c.line_end.result e.ok_part e.value) (cut_scanned _ _ _ _ _ _ _ _ _ _ _ _ c.loop-at.invariant c.loop-at-test.true n)
 
-pub slice_bounds-step-end : goal.slice_bounds-step-end
-slice_bounds-step-end c =
-    let within : (c.loop-at.at ≤ c.line_end-e.result) × (c.line_end-e.result ≤ length c.args.text.now) = end_within _ _ _ _ _ _ _ _ _ _ _ _ _ c.loop-at.invariant c.line_end-e.ensures in (within).1
-
-pub returns-then-p-eq4 : goal.returns-then-p-eq4
-returns-then-p-eq4 c =
-    let b = c in
-    let g = b.loop-at.invariant in
-    let t = c.step-p in
-    stop_scanned _ _ _ _ _ _ _ _ _ _ _ _ _ g b.line_end-e.ensures _ _ _ _ _ (t.ensures.1 g.frames g.holds) b.loop-at-test.true c.if-p-eq4.true
-
-pub overflow_add-at : goal.overflow_add-at
-overflow_add-at c =
-    let within : (c.loop-at.at ≤ c.line_end-e.result) × (c.line_end-e.result ≤ length c.args.text.now) = end_within _ _ _ _ _ _ _ _ _ _ _ _ _ c.loop-at.invariant c.line_end-e.ensures in let b = c in omega (arith, (within).1, b.well_formed.0)
-
-pub overflow_add-line : goal.overflow_add-line
-overflow_add-line c = let b = c in omega (arith, b.loop-at.invariant.lines, b.loop-at-test.true, b.well_formed.0)
+pub returns-in_err-p : goal.returns-in_err-p
+returns-in_err-p c =
+    let p = err_from_is_err_and c.from_residual-in_err-p.result c.from_residual-in_err-p.ensures.1 in
+    let g = c.loop-at.invariant in
+    let e = c.in_err-p.ensures in
+    let s = rw c.in_ok-end.ensures.ok_part at c.line_end.ensures.some in
+    let h = rw e.ok_part at (c.step.ensures.1 g.frames g.holds) in
+    rw (p.1, p.2, told c.step.result e.ok_part e.value) (stop_scanned _ _ _ _ _ _ _ _ _ _ _ _ g _ s.0 s.1 _ _ _ _ h)
 
 pub loop-at-preserved : goal.loop-at-preserved
 loop-at-preserved c =
-    let within : (c.loop-at.at ≤ c.line_end-e.result) × (c.line_end-e.result ≤ length c.args.text.now) = end_within _ _ _ _ _ _ _ _ _ _ _ _ _ c.loop-at.invariant c.line_end-e.ensures in
-    let b = c in
-    let g = b.loop-at.invariant in
-    let t = c.step-p in
-    let n = c.if-e-text.false in
-    let k = t.auto in
-    going_next _ _ _ _ _ _ _ _ _ _ _ _ _ g b.line_end-e.ensures _ _ _ _ _ (t.ensures.1 g.frames g.holds) (omega (arith, (within).1)) c.if-p-eq4.false t.ensures.0 k.starts k.rows k.values k.right
+    let g = c.loop-at.invariant in
+    let e = c.in_ok-p.ensures.ok_part in
+    let s = rw c.in_ok-end.ensures.ok_part at c.line_end.ensures.some in
+    let h = rw e at (c.step.ensures.1 g.frames g.holds) in
+    let m = rw e at c.step.ensures.0 in
+    let k = c.step.auto in
+    going_next _ _ _ _ _ _ _ _ _ _ _ _ g _ s.0 s.1 _ _ _ _ _ h m k.starts k.rows k.values k.right
 
-pub returns-then-p-eq3 : goal.returns-then-p-eq3
-returns-then-p-eq3 c = done_scanned _ _ _ _ _ _ _ _ _ _ _ _ c.loop-at.invariant c.loop-at-test.false c.if-p-eq3.true
+pub returns-in-Ended : goal.returns-in-Ended
+returns-in-Ended c = done_scanned _ _ _ _ _ _ _ _ _ _ _ _ c.loop-at.invariant c.loop-at-test.false (ap rank c.in-Ended.is)
 
-pub returns : goal.returns
-returns c = short_scanned _ _ _ _ _ _ _ _ _ _ _ _ c.loop-at.invariant c.loop-at-test.false c.if-p-eq3.false
+pub returns-in_default : goal.returns-in_default
+returns-in_default c = short_scanned _ _ _ _ _ _ _ _ _ _ _ _ c.loop-at.invariant c.loop-at-test.false (λ h. c.in_default.not-Ended (last_phase c.loop-at.p.phase h))

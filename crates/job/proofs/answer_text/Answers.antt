@@ -5,4 +5,4 @@ use Rattle.job.proofs.Reading.{read_says}
 use Rattle.job.proofs.answer_text.Goals as goal
 
 pub returns : goal.returns
-returns c = λ text h. answer_as _ (read_says text _ _ _ (omega arith) c.least.ensures h) c.run_job.ensures
+returns c = λ text h. answer_as _ (read_says text _ _ _ (omega arith) c.min.ensures h) c.run_job.ensures

@@ -5,4 +5,4 @@ use Rattle.jobs.proofs.work.Goals as goal
 
 pub returns : goal.returns
 unfolding job_room
-returns c = λ j m d b. c.work_in.ensures j m d refl refl b
+returns c = λ j m d b. c.work_in.ensures j m d refl b

@@ -1,10 +1,7 @@
--- `lines::bits_of` meets its contract: only a NaN differs from itself. Assumes nothing.
-use Rattle.laws.proofs.RootCount.{no_nan_same}
-use Rattle.lines.proofs.Written.{nan_differs}
+-- `lines::bits_of` meets its contract. Assumes nothing.
+use Rattle.std.proofs.Common.{sym, ◌∙◌}
+use Rattle.lines.proofs.Written.{nan_bits}
 use Rattle.lines.proofs.bits_of.Goals as goal
 
-pub returns-then-x : goal.returns-then-x
-returns-then-x c = nan_differs c.args.x c.if-x.true
-
-pub float_to_bits-result : goal.float_to_bits-result
-float_to_bits-result c = no_nan_same c.args.x c.if-x.false
+pub returns-then-is_nan : goal.returns-then-is_nan
+returns-then-is_nan c = nan_bits c.args.x (sym c.is_nan.ensures.value ∙ c.if-is_nan.true)

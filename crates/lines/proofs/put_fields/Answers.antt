@@ -2,13 +2,9 @@
 use mathlib.Core.Path.{◌∙◌}
 use mathlib.Core.List.{◌++◌}
 use native.Mathlib.Omega.{arith}
-use lib.ListN.{length-set}
 use Rattle.statement.specs.Job.{hex}
 use Rattle.lines.proofs.Written.{hex_length, long, placed_more, placed_end}
 use Rattle.lines.proofs.put_fields.Goals as goal
-
-pub shape_of-out : goal.shape_of-out
-shape_of-out c = simp length-set (c.put_hex-4.auto.out ∙ c.put_hex-3.auto.out ∙ c.put_hex-2.auto.out ∙ c.put_hex.auto.out)
 
 pub returns : goal.returns
 returns c =

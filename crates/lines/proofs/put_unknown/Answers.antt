@@ -3,14 +3,10 @@ use mathlib.Core.Path.{◌∙◌}
 use mathlib.Core.List.{◌++◌}
 use Prim.Native.Nat.{◌+◌}
 use native.Mathlib.Omega.{arith}
-use lib.ListN.{length-set}
 use lib.Ieee.{to_bits, binary64}
 use Rattle.statement.specs.Job.{hex}
 use Rattle.lines.proofs.Written.{hex_length, long, placed_more, placed_end, placed_as}
 use Rattle.lines.proofs.put_unknown.Goals as goal
-
-pub shape_of-out : goal.shape_of-out
-shape_of-out c = simp length-set (c.put_hex-3.auto.out ∙ c.put_hex-2.auto.out ∙ c.put_hex.auto.out)
 
 pub returns : goal.returns
 returns c =

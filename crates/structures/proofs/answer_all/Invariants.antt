@@ -2,8 +2,8 @@
 use Rattle.std.proofs.Common.{length, ◌-◌, ◌≤◌}
 use Rattle.structures.proofs.answer_all.Given as goal
 
-abbrev pub invariant-loop-at : goal.invariant-loop-at
-invariant-loop-at g l = l.at ≤ length l.text
+abbrev pub invariant-loop-l : goal.invariant-loop-l
+invariant-loop-l g l = l.at ≤ length l.text
 
-abbrev pub decreases-loop-at : goal.decreases-loop-at
-decreases-loop-at g l = length l.text - l.at
+abbrev pub decreases-loop-l : goal.decreases-loop-l
+decreases-loop-l g l = length l.text - l.at

@@ -1,5 +1,0 @@
--- `frames::end_ok` meets its contract: by the calls' results. Assumes nothing.
-use Rattle.frames.proofs.end_ok.Goals as goal
-
-pub returns : goal.returns
-returns c = cc
