@@ -24,11 +24,9 @@ pub fn set_places(place: &mut [usize], rows: &[usize], r0: usize, m: usize)
     requires by_index_2 { (p q : ℕ) → p < q → q < m → get_or rows.now (r0 + p) 0 < get_or rows.now (r0 + q) 0 }
     ensures { Touched 0 place.old place.new m (λ p. get_or rows.now (r0 + p) 0) (λ p. p) }
 {
-    let mut p = 0;
-    while p < m {
+    for p in 0..m {
         let r = rows[r0 + p];
         place[r] = p;
-        p += 1;
     }
 }
 
@@ -122,10 +120,8 @@ fn update(
     requires { Source place.now rows.now (length values.old) (length work.old) off m w kr km kw kv p1 p2 }
     ensures { Updated place.now rows.now values.old values.new off m kr km kw kv p1 p2 }
 {
-    let mut q = p1;
-    while q < p2 {
+    for q in p1..p2 {
         update_column(values, off, m, place, rows, kr, km, kw, kv, q, work);
-        q += 1;
     }
 }
 
@@ -187,12 +183,10 @@ fn updates(
     requires own { Own (laid n first.now starts.now rows.now) j off m w place.now (length values.old) (length work.old) }
     ensures { Gathered (laid n first.now starts.now rows.now) j values.old values.new }
 {
-    let mut u = 0;
-    while u < count {
+    for u in 0..count {
         one_update(
             values, j, off, m, w, n, first, starts, rows, offs, upd, count, u, place, work,
         );
-        u += 1;
     }
 }
 
@@ -250,12 +244,10 @@ fn from_a(
     ensures { FromA (laid n first.now starts.now rows.now) j astarts.now arows.now avals.now (width (laid n first.now starts.now rows.now) j) own.old own.new }
 {
     clear(own, panel::column_start(m, w));
-    let mut c = 0;
-    while c < w {
+    for c in 0..w {
         from_a_column(
             own, c, j, m, w, f, n, first, starts, rows, astarts, arows, avals, place,
         );
-        c += 1;
     }
 }
 

@@ -84,12 +84,10 @@ fn find(rows: &[usize], vals: &[f64], t0: usize, t1: usize, i: usize) -> f64
     requires { (t0 ≤ t1) × (t1 ≤ length rows.now) × (t1 ≤ length vals.now) }
     ensures { result ≡ among rows.now vals.now t0 t1 i }
 {
-    let mut t = t0;
-    while t < t1 {
+    for t in t0..t1 {
         if rows[t] == i {
             return vals[t];
         }
-        t += 1;
     }
     0.0
 }

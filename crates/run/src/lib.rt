@@ -15,11 +15,9 @@ fn fetch(lo: usize, hi: usize, n: usize, us: &[Update], words: &mut [usize])
     requires { (lo ≤ hi) × (hi ≤ length us.now) × (hi - lo ≤ n) × (owners_at n ≤ length words.old) }
     ensures { Brought lo (hi - lo) n us.now words.old words.new }
 {
-    let mut i = lo;
-    while i < hi {
+    for i in lo..hi {
         let u = update_at(us, i);
         keep(u, i, lo, n, words);
-        i += 1;
     }
 }
 
@@ -43,8 +41,7 @@ pub fn run(
     ensures { RunLeft steps n a entries firsts.now starts.now rows.now words.old floats.old values.old values.new result }
 {
     let mut least = Factored(n);
-    let mut p = 0;
-    while p < steps {
+    for p in 0..steps {
         let j = name(n, p, words);
         let lo = group(j, groups);
         let hi = group_end(j, groups);
@@ -52,7 +49,6 @@ pub fn run(
         least = turn(
             j, least, ns, n, a, entries, firsts, starts, rows, groups, words, floats, values,
         );
-        p += 1;
     }
     least
 }

@@ -53,15 +53,6 @@ from_a_column-requires c =
     let b = pre.rows in
     let f = pre.fresh in record { rows = b; lower = pre.lower; pattern = pre.pattern; fresh = scat.fresh_as _ _ _ _ _ _ _ _ (loop.invariant.1.size ∙ clear.ensures.size) f; c_lt_w = loop-test.true }
 
-pub overflow_add-c : goal.overflow_add-c
-overflow_add-c c =
-    let loop-test = c.loop-c-test in
-    omega (arith, loop-test.true)
-
-pub loop-c-smaller : goal.loop-c-smaller
-loop-c-smaller c =
-    let loop-test = c.loop-c-test in
-    omega (arith, loop-test.true)
 
 pub loop-c-preserved : goal.loop-c-preserved
 loop-c-preserved c =

@@ -7,6 +7,3 @@ use Rattle.assembly.proofs.from_a.Given as goal
 
 abbrev pub invariant-loop-c : goal.invariant-loop-c
 invariant-loop-c l = (l.c ≤ l.w) × FromA (laid l.n l.first l.starts l.rows) l.j l.astarts l.arows l.avals l.c l.initial.own l.own
-
-abbrev pub decreases-loop-c : goal.decreases-loop-c
-decreases-loop-c l = l.w - l.c

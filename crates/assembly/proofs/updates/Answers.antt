@@ -22,16 +22,6 @@ one_update-requires c =
     let loop' = c.loop-u in
     let loop-test' = c.loop-u-test in record { rows = pre'.rows; listed = pre'.listed; offsets = pre'.offsets; own = gather.own_as _ _ _ _ _ _ _ _ _ _ loop'.invariant.2.size loop'.invariant.1 pre'.own; u_lt_count = loop-test'.true }
 
-pub overflow_add-u : goal.overflow_add-u
-overflow_add-u c =
-    let loop-test' = c.loop-u-test in
-    let pre' = c.requires in
-    omega (arith, loop-test'.true, pre'.listed.1)
-
-pub loop-u-smaller : goal.loop-u-smaller
-loop-u-smaller c =
-    let loop-test' = c.loop-u-test in
-    omega (arith, loop-test'.true)
 
 pub loop-u-preserved : goal.loop-u-preserved
 loop-u-preserved c =

@@ -10,6 +10,3 @@ use Rattle.assembly.proofs.updates.Given as goal
 
 abbrev pub invariant-loop-u : goal.invariant-loop-u
 invariant-loop-u l = (l.u ≤ l.count) × (length l.work ≡ length l.initial.work) × early.Sofar (laid l.n l.first l.starts l.rows) l.j (in_words l.upd) l.count l.initial.values l.values l.u
-
-abbrev pub decreases-loop-u : goal.decreases-loop-u
-decreases-loop-u l = l.count - l.u

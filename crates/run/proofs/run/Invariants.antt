@@ -5,6 +5,3 @@ use Rattle.run.proofs.run.Given as goal
 
 abbrev pub invariant-loop-p : goal.invariant-loop-p
 invariant-loop-p l = (l.p ≤ l.steps) × Going l.steps l.ns l.n l.a l.entries l.firsts l.starts l.rows l.initial.words l.initial.floats l.initial.values l.words l.floats l.values l.least l.p
-
-abbrev pub decreases-loop-p : goal.decreases-loop-p
-decreases-loop-p l = l.steps - l.p
