@@ -16,7 +16,6 @@ update_column-requires c =
     let l = t.loop-q in
     takes.target _ _ _ _ _ _ _ _ _ _ _ _ _ t.requires l.q _ l.invariant.2 _ l.invariant.3.size l.invariant.0 t.loop-q-test.true
 
-
 pub loop-q-preserved : goal.loop-q-preserved
 loop-q-preserved c =
     let t = c in
