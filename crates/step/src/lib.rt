@@ -1,7 +1,7 @@
 // One supernode's step: its stretch of the values from A and the earlier supernodes' stretches.
 #![tactic(auto)]
 
-ghost use Rattle.std.specs.Prelude.{◌≡◌, length};
+ghost use Rattle.std.specs.Prelude.{◌≡◌, ◌<◌, length, IfErr};
 ghost use Rattle.laws.specs.Lower.{lower_value};
 ghost use Rattle.views.specs.Shown.{shape_of};
 ghost use Rattle.step.specs.Answer.{Ready, Stepped};
@@ -26,7 +26,8 @@ pub fn step(
     place: &[usize],
 ) -> Result<(), Factored>
     requires { Ready (shape_of structure.now) j offsets.now upd.now count lower.now.n lower.now.starts.now lower.now.rows.now (length values.old) (length work.old) place.now }
-    ensures { Stepped (shape_of structure.now) (lower_value lower.now.starts.now lower.now.rows.now lower.now.values.now) j values.old values.new result }
+    ensures stepped { Stepped (shape_of structure.now) (lower_value lower.now.starts.now lower.now.rows.now lower.now.values.now) j values.old values.new result }
+    ensures below { IfErr result (λ c. c.0 < structure.now.n) }
 {
     let own = Supernode::of(j, structure, offsets);
     assemble(

@@ -107,8 +107,8 @@ clear-requires c =
     let v2 = part.back nan c.assemble.new.values off c.dense.new.own in
     omega (arith, c.column_start.ensures, gather.stretch_in S p.shape c.args.j (le_refl _) _ _ (ap (λ s. s.height) k) (ap (λ s. s.width) k) off (length v2) (length (part.mid nan v2 off)) (ap (λ s. s.offset) k) (omega (arith, after S c.args.j _ c.args.values.now _ _ (ap (λ s. s.offset) k) p.values c.assemble.ensures.size c.in-Err.ensures.dense.size, p.values)) (part.mid_length nan v2 off))
 
-pub returns-in-Ok : goal.returns-in-Ok
-returns-in-Ok c =
+pub returns-in-Ok-clause-stepped : goal.returns-in-Ok-clause-stepped
+returns-in-Ok-clause-stepped c =
     let S = shape_of c.args.structure.now in
     let p = c.requires in
     let k = c.of-own.ensures in
@@ -116,11 +116,16 @@ returns-in-Ok c =
     let d = ends.dense_as l.starts.now l.rows.now l.values.now _ _ _ _ _ k c.in-Ok.ensures.dense in
     ends.ended_made S p.shape c.args.j (le_refl _) (lower_value l.starts.now l.rows.now l.values.now) c.args.values.now c.assemble.new.values c.dense.new.own c.of-own.result.offset (ap (λ s. s.offset) k) p.values c.assemble.ensures _ d _ refl (omega (arith, ap (λ s. s.width) k))
 
-pub returns-in-Err : goal.returns-in-Err
-returns-in-Err c =
+pub returns-in-Err-clause-stepped : goal.returns-in-Err-clause-stepped
+returns-in-Err-clause-stepped c =
     let S = shape_of c.args.structure.now in
     let p = c.requires in
     let k = c.of-own.ensures in
     let l = c.args.lower.now in
     let d = ends.dense_as l.starts.now l.rows.now l.values.now _ _ _ _ _ k c.in-Err.ensures.dense in
     ends.ended_broke S p.shape c.args.j (le_refl _) (lower_value l.starts.now l.rows.now l.values.now) c.args.values.now c.assemble.new.values c.dense.new.own c.of-own.result.offset (ap (λ s. s.offset) k) p.values c.assemble.ensures _ d _ refl c.clear.new.w _ _ (omega (arith, c.in-Err.ensures.breaks, ap (λ s. s.width) k)) (scat.size_code S c.args.j _ _ _ c.column_start.ensures (ap (λ s. s.height) k) (ap (λ s. s.width) k)) (ap (λ s. s.first + c.in-Err.c) k) c.clear.ensures
+
+pub returns-in-Err-clause-below : goal.returns-in-Err-clause-below
+returns-in-Err-clause-below c =
+    let k = c.of-own.ensures in
+    omega (arith, c.in-Err.ensures.breaks, gather.cols_in (shape_of c.args.structure.now) c.requires.shape c.args.j (le_refl _) _ _ (ap (λ s. s.height) k) (ap (λ s. s.width) k), ap (λ s. s.first) k)
