@@ -65,6 +65,13 @@ pub record Asked (steps ns n entries : ℕ) (F St R groups : List ℕ) (us : Lis
   pub flags : (J : ℕ) → J < ns → get_or words J 0 ≡ 0
   pub room : entries ≤ length values
 
+pub asked : {steps ns n a entries : ℕ} {F St R groups : List ℕ} {us : List Update} {words : List ℕ} {floats matrix values : List Float} {wlen k : ℕ} → matrix ≡ take a floats → k + a ≡ length floats → wlen ≡ k →
+    RunReady steps ns n a entries F St R groups us words floats values → Asked steps ns n entries F St R groups us words matrix values wlen
+asked {a = a} {floats = floats} {wlen = wlen} {k = k} e l h r = record { due = rw (e, same) r.due; updates = r.updates; most = r.most; names = r.names; flags = r.flags; room = r.room }
+  where
+    same : wlen ≡ length floats - a
+    same = omega arith
+
 module _ {steps ns n entries : ℕ} {F St R groups : List ℕ} {us : List Update} {words₀ : List ℕ} {matrix values₀ : List Float} {wlen : ℕ} (pre : 0 < steps → Asked steps ns n entries F St R groups us words₀ matrix values₀ wlen) where
   -- the structure, A and the names, of the words and floats at the start
   abbrev T : Shape

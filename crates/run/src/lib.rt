@@ -48,7 +48,13 @@ pub fn run(
     let mut least = None;
     for p in 0..steps {
         let j = name(structure.n, p, words);
-        fetch(group(j, groups), group_end(j, groups), structure.n, us, words);
+        fetch(
+            group(j, groups),
+            group_end(j, groups),
+            structure.n,
+            us,
+            words,
+        );
         least = turn(
             j, least, ns, entries, structure, groups, words, matrix, work, values,
         );
