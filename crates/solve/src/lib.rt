@@ -9,7 +9,7 @@ ghost use Rattle.solve.specs.Found.{Owned};
 
 use areas::{clear_floats, clear_words};
 use checks::{offset, solvable, viewable};
-use panel::panel_column;
+use panel::Panel;
 use sides::{sides_answer, solve_sides};
 use statement::{Answer, Factored, Record};
 
@@ -113,7 +113,11 @@ fn column_part<'a>(
     let c = q - firsts[k];
     let m = starts[k + 1] - starts[k];
     let off = offset(n, firsts, starts, rows, k);
-    panel_column(&values[off..], m, c)
+    Panel {
+        m,
+        values: &values[off..],
+    }
+    .column(c)
 }
 
 // The part of the values that is one column, diagonal first; empty on failure or for a column not below n.

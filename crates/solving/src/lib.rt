@@ -10,7 +10,7 @@ ghost use Rattle.laws.specs.Lent.{lent, laid};
 ghost use Rattle.solving.specs.Walk.{Rising, is_run, Column, Block, Walked, Supernode, Solving};
 
 use forward_four::forward4;
-use panel::{column_start, panel_column};
+use panel::{Panel, column_start};
 use statement::Record;
 
 // x, less the value times y at each row.
@@ -128,10 +128,10 @@ fn forward_fours(rows: &[usize], values: &[f64], f: usize, w: usize, x: &mut [f6
     let mut c: usize = 0;
     while c + 4 <= w {
         forward4(
-            panel_column(values, m, c),
-            panel_column(values, m, c + 1),
-            panel_column(values, m, c + 2),
-            panel_column(values, m, c + 3),
+            Panel { m, values }.column(c),
+            Panel { m, values }.column(c + 1),
+            Panel { m, values }.column(c + 2),
+            Panel { m, values }.column(c + 3),
             f + c,
             x,
         );
@@ -148,7 +148,7 @@ fn forward_columns(rows: &[usize], values: &[f64], f: usize, w: usize, x: &mut [
     let m = rows.len();
     let mut c = forward_fours(rows, values, f, w, x);
     while c < w {
-        forward_column(&rows[c..], panel_column(values, m, c), f + c, x);
+        forward_column(&rows[c..], Panel { m, values }.column(c), f + c, x);
         c += 1;
     }
 }
@@ -162,7 +162,7 @@ fn backward_columns(rows: &[usize], values: &[f64], f: usize, w: usize, x: &mut 
     let mut c = w;
     while c > 0 {
         c -= 1;
-        backward_column(&rows[c..], panel_column(values, m, c), f + c, x);
+        backward_column(&rows[c..], Panel { m, values }.column(c), f + c, x);
     }
 }
 

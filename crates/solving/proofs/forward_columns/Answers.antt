@@ -38,8 +38,8 @@ slice_bounds-forward_column-end c =
     let loop-test' = c.loop-c-test in
     omega (arith, pre'.wide, loop-test'.true)
 
-pub panel_column-requires : goal.panel_column-requires
-panel_column-requires c =
+pub column-requires : goal.column-requires
+column-requires c =
     let pre' = c.requires in
     let loop' = c.loop-c in
     let loop-test' = c.loop-c-test in
@@ -57,7 +57,7 @@ forward_column-requires c =
     let forward-fours' = c.forward_fours-c in
     let pre' = c.requires in
     let loop-test' = c.loop-c-test in
-    let panel-column' = c.panel_column in
+    let panel-column' = c.column in
     rw (loop'.invariant.1 ∙ forward-fours'.auto.x) (one_column pre' loop'.c loop-test'.true _ panel-column'.ensures)
 
 pub overflow_add-c : goal.overflow_add-c
@@ -77,7 +77,7 @@ loop-c-preserved c =
     let loop' = c.loop-c in
     let args' = c.args in
     let pre' = c.requires in
-    let panel-column' = c.panel_column in
+    let panel-column' = c.column in
     (omega (arith, loop-test'.true), forward-column'.auto.x ∙ loop'.invariant.1, λ S K v z s h. forward_more S v args'.f z loop'.x _ loop'.c (loop'.invariant.2 S K v z s h) (forward-column'.ensures S v (column_rows pre' loop'.c loop-test'.true _ panel-column'.ensures S K v s) (column_values pre' loop'.c loop-test'.true _ panel-column'.ensures S K v s)))
 
 pub shape_of-x : goal.shape_of-x
