@@ -4,7 +4,7 @@ use mathlib.Core.Bool.{true}
 use mathlib.Core.List.{List}
 use Prim.Native.Nat.{ℕ, zero, suc, ◌+◌, ◌-◌, ◌≤◌, ◌<◌}
 use native.Mathlib.Omega.{arith}
-use native.Mathlib.Nat.{add-sub_of_le}
+use native.Mathlib.Nat.{add-sub_of_le, le_refl}
 use native.Mathlib.Numerals.{add-one}
 use native.Mathlib.Decide.{ℕ_discrete, dec_lt}
 use lib.ListN.{length, get_or, take}
@@ -12,11 +12,13 @@ use lib.Seq.{length-slice, get_or-take, get_or-drop}
 use lib.Ieee.{Float}
 use Rattle.laws.proofs.Entry.{place_lt, get_d_place, has_of_place}
 use Rattle.laws.proofs.Built.{place_sorted}
+use Rattle.laws.specs.Lower.{Lower}
 use Rattle.laws.proofs.Stretches.{offset_suc, offset_mono}
 use Rattle.spread.specs.Spread.{pos_of}
 use Rattle.assembly.specs.Update.{Source, Updated}
 use Rattle.areas.specs.Touch.{Touched}
-use Rattle.assembly.specs.Ready.{row, Rows, source, low, high, Listed, Placed, Own}
+use Rattle.assembly.specs.Ready.{row, Rows, source, low, high, Listed, Placed, Own, Fresh, Stands, supernode_of}
+use Rattle.assembly.specs.declared.Supernode.{Supernode}
 use Rattle.statement.specs.Shape.{Shape, first, width, height, rows_of, trapezoid, size, offset, stretch}
 use Rattle.statement.specs.declared.Update.{Update}
 use Rattle.statement.specs.Lists.{has, place}
@@ -119,13 +121,31 @@ module _ (S : Shape) {N : ℕ} (b : Rows S N) (K : ℕ) (h : K < N) where
   pub width_code : get_or S.firsts (K + 1) 0 - get_or S.firsts K 0 ≡ width S K
   width_code = ap (λ k. get_or S.firsts k 0 - get_or S.firsts K 0) (add-one K)
 
-pub source_as : (pl rows : List ℕ) (vlen wlen off off' m m' w w' kr km km' kw kw' kv kv' p1 p2 : ℕ) → off ≡ off' → m ≡ m' → w ≡ w' → km ≡ km' → kw ≡ kw' → kv ≡ kv' →
-    Source pl rows vlen wlen off' m' w' kr km' kw' kv' p1 p2 → Source pl rows vlen wlen off m w kr km kw kv p1 p2
-source_as pl rows vlen wlen off off' m m' w w' kr km km' kw kw' kv kv' p1 p2 e₁ e₂ e₃ e₄ e₅ e₆ s = rw (e₁, e₂, e₃, e₄, e₅, e₆) s
+  pub stands : (offs : List ℕ) → K < length offs → get_or offs K 0 ≡ offset S K → Stands S K offs
+  stands offs r e = record { ends = omega (arith, b.ends); many = omega (arith, b.many); rise = omega (arith, b.rise K h); ordered = b.ordered K h; listed = b.listed K h; room = r; at = e }
 
-pub updated_as : (pl rows : List ℕ) (old new : List Float) (off off' m m' kr km km' kw kw' kv kv' p1 p2 : ℕ) → off ≡ off' → m ≡ m' → km ≡ km' → kw ≡ kw' → kv ≡ kv' →
-    Updated pl rows old new off m kr km kw kv p1 p2 → Updated pl rows old new off' m' kr km' kw' kv' p1 p2
-updated_as pl rows old new off off' m m' kr km km' kw kw' kv kv' p1 p2 e₁ e₂ e₃ e₄ e₅ s = rw (← e₁, ← e₂, ← e₃, ← e₄, ← e₅) s
+-- a supernode as the code reads it
+pub read : (S : Shape) (K : ℕ) (offs : List ℕ) → Stands S K offs →
+    record { first = get_or S.firsts K 0; start = get_or S.starts K 0; height = get_or S.starts (K + 1) 0 - get_or S.starts K 0; width = get_or S.firsts (K + 1) 0 - get_or S.firsts K 0; offset = get_or offs K 0 } ≡ supernode_of S K
+unfolding rows_of
+read S K offs s = ap (λ h. of h (get_or S.firsts (K + 1) 0 - get_or S.firsts K 0) (get_or offs K 0)) tall ∙ ap (λ w. of (height S K) w (get_or offs K 0)) wide ∙ ap (of (height S K) (width S K)) s.at
+  where
+    of : ℕ → ℕ → ℕ → Supernode
+    of h w o = record { first = get_or S.firsts K 0; start = get_or S.starts K 0; height = h; width = w; offset = o }
+
+    tall : get_or S.starts (K + 1) 0 - get_or S.starts K 0 ≡ height S K
+    tall = ap (λ k. get_or S.starts k 0 - get_or S.starts K 0) (add-one K) ∙ sym (length-slice (get_or S.starts K 0) (get_or S.starts (suc K) 0) S.rows s.listed)
+
+    wide : get_or S.firsts (K + 1) 0 - get_or S.firsts K 0 ≡ width S K
+    wide = ap (λ k. get_or S.firsts k 0 - get_or S.firsts K 0) (add-one K)
+
+pub source_as : (pl rows : List ℕ) (vlen wlen off off' m m' w w' : ℕ) (k k' : Supernode) (p1 p2 : ℕ) → off ≡ off' → m ≡ m' → w ≡ w' → k ≡ k' →
+    Source pl rows vlen wlen off' m' w' k'.start k'.height k'.width k'.offset p1 p2 → Source pl rows vlen wlen off m w k.start k.height k.width k.offset p1 p2
+source_as pl rows vlen wlen off off' m m' w w' k k' p1 p2 e₁ e₂ e₃ e₄ s = rw (e₁, e₂, e₃, e₄) s
+
+pub updated_as : (pl rows : List ℕ) (old new : List Float) (off off' m m' : ℕ) (k k' : Supernode) (p1 p2 : ℕ) → off ≡ off' → m ≡ m' → k ≡ k' →
+    Updated pl rows old new off m k.start k.height k.width k.offset p1 p2 → Updated pl rows old new off' m' k'.start k'.height k'.width k'.offset p1 p2
+updated_as pl rows old new off off' m m' k k' p1 p2 e₁ e₂ e₃ s = rw (← e₁, ← e₂, ← e₃) s
 
 pub own_as : (S : Shape) (J off m w : ℕ) (pl : List ℕ) (vlen vlen' wlen wlen' : ℕ) → vlen' ≡ vlen → wlen' ≡ wlen → Own S J off m w pl vlen wlen → Own S J off m w pl vlen' wlen'
 own_as S J off m w pl vlen vlen' wlen wlen' e f o = rw (e, f) o
@@ -168,3 +188,11 @@ module _ (S : Shape) {N : ℕ} (b : Rows S N) (J : ℕ) (h : J < N) (m w : ℕ) 
 
 pub off_le : (S : Shape) (J off vlen : ℕ) → off ≡ offset S J → offset S (suc J) ≤ vlen → off ≤ vlen
 off_le S J off vlen e l = omega (arith, offset_suc S J)
+
+-- a column of J's own, as the code has it at hand
+pub col : {S : Shape} {J m w f L c : ℕ} {pl : List ℕ} → Rows S (suc J) → Fresh S J m w f pl L → c < w → (f + c < S.n) × (c < width S J)
+col {S} {J} {m} {w} b t l = (omega (arith, cols_in S b J (le_refl _) m w t.m_is t.w_is, t.f_is), omega (arith, t.w_is))
+
+-- A's lower columns as those of the structure
+pub as_lower : {n k : ℕ} {starts rows : List ℕ} {values : List Float} → n ≡ k → Lower starts rows values n → Lower starts rows values k
+as_lower {starts = starts} {rows = rows} {values = values} e l = subst (λ k. Lower starts rows values k) e l

@@ -4,6 +4,7 @@ use Rattle.statement.specs.Shape.{Shape, first, width, height, rows_of, trapezoi
 use Rattle.statement.specs.declared.Update.{Update}
 use Rattle.statement.specs.Areas.{no_update}
 use Rattle.statement.specs.Lists.{has}
+use Rattle.assembly.specs.declared.Supernode.{Supernode}
 
 -- row p of the supernode K
 abbrev pub row : Shape → ℕ → ℕ → ℕ
@@ -55,6 +56,20 @@ pub record Listed (S : Shape) (J : ℕ) (upd : ℕ → Update) (count : ℕ) : T
 pub record Offsets (S : Shape) (J : ℕ) (offs : List ℕ) : Type 0 where
   pub room : J < length offs
   pub at : (K : ℕ) → K ≤ J → get_or offs K 0 ≡ offset S K
+
+-- the supernode K by its numbers
+abbrev pub supernode_of : Shape → ℕ → Supernode
+supernode_of S K = record { first = first S K; start = get_or S.starts K 0; height = height S K; width = width S K; offset = offset S K }
+
+-- K is one of S's supernodes, and the offsets have its own
+pub record Stands (S : Shape) (K : ℕ) (offs : List ℕ) : Type 0 where
+  pub ends : suc K < length S.firsts
+  pub many : suc K < length S.starts
+  pub rise : get_or S.firsts K 0 ≤ get_or S.firsts (suc K) 0
+  pub ordered : get_or S.starts K 0 ≤ get_or S.starts (suc K) 0
+  pub listed : get_or S.starts (suc K) 0 ≤ length S.rows
+  pub room : K < length offs
+  pub at : get_or offs K 0 ≡ offset S K
 
 -- J's rows know their positions
 abbrev pub Placed : Shape → ℕ → List ℕ → Type 0

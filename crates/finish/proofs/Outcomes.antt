@@ -18,7 +18,8 @@ use Rattle.statement.specs.Postorder as postorder
 use Rattle.statement.specs.Shape.{supernodes}
 use Rattle.statement.specs.Tasks.{split_of}
 use Rattle.statement.specs.Answers.{number, test, or_else}
-use Rattle.laws.specs.Answered.{answered}
+use Rattle.laws.specs.Answered.{answered, passed}
+use Rattle.std.specs.Prelude.{Ok, Err}
 use Rattle.statement.specs.Record.{empty_record}
 use Rattle.statement.specs.Areas.{short, held, flat}
 use Rattle.statement.specs.Calls.{input_fault, analysis, settled, record_of, areas_of, cleared, stop_of, factor_needs, factor_fault, factor}
@@ -57,11 +58,22 @@ in_one_run none none false x (some a) d y w rest = refl
 in_one_run none none false x none true y w rest = refl
 in_one_run none none false x none false y w rest = refl
 
--- where the test of the pivots is passed it has no answer
-no_answer : (b : Bool) (k : Original) → answered (test b (WrongPivot k) none) ≡ Accepted → test b (WrongPivot k) none ≡ none
-unfolding answered test
-no_answer true k e = absurd (omega (arith, ap number e))
-no_answer false k e = refl
+-- what is refused, and what is passed
+refused_is : (f : Option Answer) (a : Answer) → Err a ≡ passed f → f ≡ some a
+unfolding passed
+refused_is none a q = absurd (let w : ◌≡◌ {A = ℕ} 0 1 = cc q in omega arith)
+refused_is (some b) a q = let w : a ≡ b = cc q in ap some (sym w)
+
+none_is : (f : Option Answer) → Ok tt ≡ passed f → f ≡ none
+unfolding passed
+none_is none q = refl
+none_is (some b) q = absurd (let w : ◌≡◌ {A = ℕ} 0 1 = cc q in omega arith)
+
+-- the test of the pivots refuses by number 9
+not_accepted : (b : Bool) (k : Original) (a : Answer) → test b (WrongPivot k) none ≡ some a → a ≢ Accepted
+unfolding test
+not_accepted true k a s = λ z. let w : WrongPivot k ≡ a = cc s in absurd (omega (arith, ap number (w ∙ z)))
+not_accepted false k a s = λ z. absurd (let w : ◌≡◌ {A = ℕ} 0 1 = cc s in omega arith)
 
 -- the permutation's area begins with it
 module _ (M : Matrix) (m : ℕ) {permutation : List ℕ} (e : permutation ≡ held m 0 (postorder.permutation (pattern M) M.n)) where
@@ -94,22 +106,24 @@ module _ (M : Matrix) (cap : ℕ) (o : Order) (l : List ℕ) (e : Stop) (r : Roo
 
     module _ (k : x.answer ≡ Accepted) where
       -- all but number 9 is passed
-      passed : fault ≡ pivot_test M o l e
-      passed = sym same_fault ∙ or_next early (pivot_test M o l e) (or_next (structure_fault M cap r) (order_test M o l e) (d.go k).laid.calm ∙ (d.go k).legal)
+      through : fault ≡ pivot_test M o l e
+      through = sym same_fault ∙ or_next early (pivot_test M o l e) (or_next (structure_fault M cap r) (order_test M o l e) (d.go k).laid.calm ∙ (d.go k).legal)
 
       pivots : test (ltb least.0 M.n) (WrongPivot (to_original permutation least)) none ≡ fault
       unfolding pivot_test analysis
-      pivots = same_named M r.permutation (d.go k).laid.one least (ltb least.0 M.n) refl ∙ rw (d.go k).low (sym passed)
+      pivots = same_named M r.permutation (d.go k).laid.one least (ltb least.0 M.n) refl ∙ rw (d.go k).low (sym through)
 
-    module _ {a : Answer} where
-      pub told : Verdict x least M.n permutation a → a ≡ answered fault
-      unfolding answered
-      told (before k q) = q ∙ d.ans ∙ or_first early (pivot_test M o l e) (λ z. k (d.ans ∙ z)) ∙ ap answered same_fault
-      told (after k q) = q ∙ ap answered (pivots k)
+    pub told : {a : Answer} → Verdict x least M.n permutation (Err a) → (a ≢ Accepted) × (a ≡ answered fault)
+    told {a} (before k q) =
+        let w : a ≡ x.answer = cc q in
+        (λ z. k (sym w ∙ z), w ∙ d.ans ∙ or_first early (pivot_test M o l e) (λ z. k (d.ans ∙ z)) ∙ ap answered same_fault)
+    told {a} (after k q) =
+        let s = refused_is (test (ltb least.0 M.n) (WrongPivot (to_original permutation least)) none) a q in
+        (not_accepted (ltb least.0 M.n) (to_original permutation least) a s, unfold answered in ap answered (sym s ∙ pivots k))
 
-      pub over : Verdict x least M.n permutation a → a ≡ Accepted → Over M cap o l e r x least permutation firsts starts groups tasks nine values × (fault ≡ none)
-      over (before k q) z = absurd (k (sym q ∙ z))
-      over (after k q) z = (d.go k, sym (pivots k) ∙ no_answer (ltb least.0 M.n) (to_original permutation least) (sym q ∙ z))
+    pub over : Verdict x least M.n permutation (Ok tt) → Over M cap o l e r x least permutation firsts starts groups tasks nine values × (fault ≡ none)
+    over (before k q) = absurd (let w : ◌≡◌ {A = ℕ} 0 1 = cc q in omega arith)
+    over (after k q) = (d.go k, sym (pivots k) ∙ none_is (test (ltb least.0 M.n) (WrongPivot (to_original permutation least)) none) q)
 
   -- ---- a refusal: the plain areas are cleared once more
 

@@ -134,7 +134,7 @@ module _ {M : Matrix} {cap : ℕ} {o : Order} {l : List ℕ} {e : Stop} {r : Roo
         inside : (q : ℕ) → q < t → get_or words' (names_at M.n + q) 0 < supernodes S
         inside q h = rw (name q h) (order_of_lem.0.inside q (omega (arith, et, order_of_lem.0.all, order_of_lem.1)))
 
-        due : 0 < t → Due M.n firsts starts nine (supernodes S) (length M.rows) groups words' floats x.entries
+        due : 0 < t → Due M.n firsts starts nine (supernodes S) groups words' (take (length M.rows) floats) x.entries (length floats - length M.rows)
         unfolding shape_of
         due h =
             let q = enough p.laid (replicate r.top 0) words floats (length-replicate r.top 0) p.words_long p.floats_long in

@@ -1,11 +1,11 @@
 -- The run over, number 9, and what factor leaves. Definitions only.
-use Rattle.std.specs.Prelude.{◌≡◌, ◌≢◌, List, ℕ, ltb, Float}
+use Rattle.std.specs.Prelude.{◌≡◌, ◌≢◌, List, ℕ, ⊤, Result, Err, ltb, Float}
 use Rattle.std.proofs.Math.Option.{Option, none}
 use Rattle.statement.specs.Input.{Matrix, +0}
 use Rattle.statement.specs.Postorder.{to_original}
 use Rattle.statement.specs.Run.{State}
 use Rattle.statement.specs.Answers.{test, or_else}
-use Rattle.laws.specs.Answered.{answered}
+use Rattle.laws.specs.Answered.{answered, passed}
 use Rattle.statement.specs.Areas.{held}
 use Rattle.statement.specs.Calls.{Settled, analysis, stop_of, state_after}
 use Rattle.statement.specs.declared.Answer.{Answer}
@@ -42,10 +42,10 @@ pub record Ended (M : Matrix) (cap : ℕ) (o : Order) (l : List ℕ) (e : Stop) 
   pub ans : x.answer ≡ answered (or_else (structure_fault M cap r) (order_test M o l e))
   pub go : x.answer ≡ Accepted → Over M cap o l e r x least permutation firsts starts groups tasks nine values
 
--- the answer after it: the one before, or that of the test of the pivots
-pub data Verdict (x : Findings) (least : Factored) (n : ℕ) (permutation : List ℕ) (a : Answer) : Type 0 where
-  before : x.answer ≢ Accepted → a ≡ x.answer → Verdict x least n permutation a
-  after : x.answer ≡ Accepted → a ≡ answered (test (ltb least.0 n) (WrongPivot (to_original permutation least)) none) → Verdict x least n permutation a
+-- what is refused after it: the answer before, or what the test of the pivots refuses
+pub data Verdict (x : Findings) (least : Factored) (n : ℕ) (permutation : List ℕ) (r : Result ⊤ Answer) : Type 0 where
+  before : x.answer ≢ Accepted → r ≡ Err x.answer → Verdict x least n permutation r
+  after : x.answer ≡ Accepted → r ≡ passed (test (ltb least.0 n) (WrongPivot (to_original permutation least)) none) → Verdict x least n permutation r
 
 -- what factor leaves in all areas but the updates
 pub record FactorSettlesPlain (said : Settled) (x : Outcome) (permutation firsts starts groups tasks top words : List ℕ) (floats : List Float) (nine : List ℕ) (values : List Float) : Type 0 where

@@ -1,30 +1,35 @@
 // From where the run ended to the answer and the areas: number 9, the split into tasks, the record and the last clearing.
 #![tactic(auto)]
 
-ghost use Rattle.std.specs.Prelude.{◌≡◌, ◌≤◌, length};
+ghost use Rattle.std.specs.Prelude.{◌≡◌, ◌≤◌, ◌<◌, length, IfSome};
 ghost use Rattle.statement.specs.Input.{matrix};
 ghost use Rattle.statement.specs.Calls.{factor};
+ghost use Rattle.answers.specs.Least.{least_of};
 ghost use Rattle.begin.specs.Begun.{lent_all};
 ghost use Rattle.finish.specs.Filled.{Ended, Verdict, FactorSettlesPlain};
 
 use answers::{pivot_answer, refused};
-use areas::{clear_floats, clear_words};
 use clearing::clear_all;
 use order::stage;
 use statement::{Answer, Factored, Order, Outcome, Record, Stage, Stop};
 use survey::Findings;
 use tasks::{Cuts, split};
 
-// The answer before the run, or where all was well the one after it.
-fn verdict(x: Findings, least: Factored, n: usize, permutation: &[usize]) -> Answer
-    requires { x.answer ≡ Answer.Accepted → n ≤ length permutation.now }
-    ensures { Verdict x least n permutation.now result }
+// What is refused before the run, or where all was well after it.
+fn verdict(
+    x: Findings,
+    least: Option<Factored>,
+    n: usize,
+    permutation: &[usize],
+) -> Result<(), Answer>
+    requires room { x.answer ≡ Answer.Accepted → n ≤ length permutation.now }
+    requires below { IfSome least (λ c. c.0 < n) }
+    ensures { Verdict x (least_of n least) n permutation.now result }
 {
-    let a = x.answer;
-    let Answer::Accepted = a else {
-        return a;
-    };
-    pivot_answer(least, n, permutation)
+    match x.answer {
+        Answer::Accepted => pivot_answer(least, permutation),
+        a => Err(a),
+    }
 }
 
 fn accepted(n: usize, state: Stage, s: Findings, c: Cuts) -> Outcome
@@ -49,7 +54,7 @@ fn accepted(n: usize, state: Stage, s: Findings, c: Cuts) -> Outcome
 // Accepted: the tasks, the record, and clear scratch. Refused: an empty record, and zeros in every plain area.
 pub fn finish(
     x: Findings,
-    least: Factored,
+    least: Option<Factored>,
     n: usize,
     input_starts: &[usize],
     input_rows: &[usize],
@@ -70,27 +75,31 @@ pub fn finish(
     rows: &mut [usize],
     values: &mut [f64],
 ) -> Outcome
-    requires { Ended (matrix n input_starts.now input_rows.now input_values.now) cap order list.now stop (lent_all (length permutation.old) (length firsts.old) (length starts.old) (length groups.old) (length tasks.old) (length top.old) (length words.old) (length floats.old) (length rows.old) long (length values.old)) x least permutation.old firsts.old starts.old groups.old tasks.old rows.old values.old }
+    requires ended { Ended (matrix n input_starts.now input_rows.now input_values.now) cap order list.now stop (lent_all (length permutation.old) (length firsts.old) (length starts.old) (length groups.old) (length tasks.old) (length top.old) (length words.old) (length floats.old) (length rows.old) long (length values.old)) x (least_of n least) permutation.old firsts.old starts.old groups.old tasks.old rows.old values.old }
+    requires below { IfSome least (λ c. c.0 < n) }
     ensures { FactorSettlesPlain (factor (matrix n input_starts.now input_rows.now input_values.now) cap order list.now stop (lent_all (length permutation.old) (length firsts.old) (length starts.old) (length groups.old) (length tasks.old) (length top.old) (length words.old) (length floats.old) (length rows.old) long (length values.old))) result permutation.new firsts.new starts.new groups.new tasks.new top.new words.new floats.new rows.new values.new }
 {
-    let a = verdict(x, least, n, permutation);
-    let Answer::Accepted = a else {
-        clear_all(
-            permutation,
-            firsts,
-            starts,
-            groups,
-            tasks,
-            top,
-            words,
-            floats,
-            rows,
-            values,
-        );
-        return refused(a);
-    };
-    let c = split(n, x.supernodes, firsts, starts, tasks, top, words);
-    clear_words(words);
-    clear_floats(floats);
-    accepted(n, stage(x.supernodes, stop), x, c)
+    match verdict(x, least, n, permutation) {
+        Err(a) => {
+            clear_all(
+                permutation,
+                firsts,
+                starts,
+                groups,
+                tasks,
+                top,
+                words,
+                floats,
+                rows,
+                values,
+            );
+            refused(a)
+        }
+        Ok(()) => {
+            let c = split(n, x.supernodes, firsts, starts, tasks, top, words);
+            words.fill(0);
+            floats.fill(0.0);
+            accepted(n, stage(x.supernodes, stop), x, c)
+        }
+    }
 }

@@ -1,5 +1,4 @@
-// One supernode's trapezoid, column by column, and `Panel`, a view of it. The work stands in functions on the slice and the numbers, and
-// callers go through `panel_column` and `panel_entry`.
+// One supernode's trapezoid, column by column, and `Panel`, a view of it.
 #![tactic(auto)]
 
 ghost use Rattle.std.specs.Prelude.{◌≡◌, ◌≤◌, ◌<◌};
@@ -25,25 +24,6 @@ pub fn panel_start(c: usize) -> usize
     c / 64 * 64
 }
 
-// Column c, diagonal first.
-pub fn column_at<'a>(values: &'a [f64], m: usize, c: usize) -> &'a [f64]
-    requires { Within m values.now c }
-    ensures { result.now ≡ column_of m values.now c }
-{
-    let at = column_start(m, c);
-    let end = at + (m - c);
-    &values[at..end]
-}
-
-// Row r of column c.
-pub fn entry_at(values: &[f64], m: usize, r: usize, c: usize) -> f64
-    requires { (Within m values.now c) × (c ≤ r) × (r < m) }
-    ensures { result ≡ cell m values.now r c }
-{
-    let at = column_start(m, c) + (r - c);
-    values[at]
-}
-
 // The trapezoid of m rows at the start of the values.
 #[derive(Clone, Copy)]
 pub struct Panel<'a> {
@@ -57,7 +37,8 @@ impl<'a> Panel<'a> {
         requires { (Within self.m self.values.now c) × (c ≤ r) × (r < self.m) }
         ensures { result ≡ cell self.entry.m self.entry.values.now r c }
     {
-        entry_at(self.values, self.m, r, c)
+        let at = column_start(self.m, c) + (r - c);
+        self.values[at]
     }
 
     // Column c, diagonal first.
@@ -65,22 +46,8 @@ impl<'a> Panel<'a> {
         requires { Within self.m self.values.now c }
         ensures { result.now ≡ column_of self.entry.m self.entry.values.now c }
     {
-        column_at(self.values, self.m, c)
+        let at = column_start(self.m, c);
+        let end = at + (self.m - c);
+        &self.values[at..end]
     }
-}
-
-// Column c of the panel of these values.
-pub fn panel_column<'a>(values: &'a [f64], m: usize, c: usize) -> &'a [f64]
-    requires { Within m values.now c }
-    ensures { result.now ≡ column_of m values.now c }
-{
-    Panel { m, values }.column(c)
-}
-
-// Row r of column c of the panel of these values.
-pub fn panel_entry(values: &[f64], m: usize, r: usize, c: usize) -> f64
-    requires { (Within m values.now c) × (c ≤ r) × (r < m) }
-    ensures { result ≡ cell m values.now r c }
-{
-    Panel { m, values }.at(r, c)
 }

@@ -11,7 +11,8 @@ use lib.Dec.{ltb}
 use lib.Ieee.{Float, nan, binary64, sub, div}
 use Rattle.laws.proofs.Entry.{trap_suc, trap_mono, dot_same, singly_same}
 use Rattle.panel.specs.View.{cell}
-use Rattle.panels.specs.Dense.{inner, Column, Ruled, Dense}
+use Rattle.panels.specs.Dense.{inner, Column, Ruled, Dense, passed}
+use Rattle.std.specs.Prelude.{⊤, Result, Ok, Err, IsErrAnd}
 use Rattle.statement.specs.Shape.{trapezoid}
 use Rattle.statement.specs.Root.{root}
 use Rattle.statement.specs.Rules.{singly, panel, passes}
@@ -114,3 +115,8 @@ module _ (m : ℕ) (a : ℕ → Float) (old : List Float) where
 
 pub as_a : (m c : ℕ) (x y : Float) (s s' : List Float) (b : Bool) → x ≡ y → Column m c x s s' b → Column m c y s s' b
 as_a m c x y s s' b e u = subst (λ z. Column m c z s s' b) e u
+
+-- where it ends early, by what it answers
+pub broke : {m w c e : ℕ} {a : ℕ → Float} {old s : List Float} (r : Result ⊤ ℕ) → IsErrAnd r (λ x. x ≡ e) → e ≡ c → Dense m w a old s c → Dense m w a old s (passed w r)
+broke {m} {w} {a = a} {old = old} {s = s} (Err x) f g d = subst (λ n. Dense m w a old s n) (sym (f ∙ g)) d
+broke (Ok x) f g d = absurd f

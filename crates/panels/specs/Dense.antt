@@ -1,5 +1,5 @@
 -- The dense part of the entry rules, by positions in one trapezoid. Assumes nothing.
-use Rattle.std.specs.Prelude.{◌≡◌, Bool, true, false, cond, List, ℕ, ◌+◌, ◌-◌, ◌<◌, ◌≤◌, length, get_or, ltb, Float}
+use Rattle.std.specs.Prelude.{◌≡◌, Bool, true, false, cond, List, ℕ, ⊤, Result, Ok, Err, ◌+◌, ◌-◌, ◌<◌, ◌≤◌, length, get_or, ltb, Float}
 use Rattle.std.specs.Float.{nan, binary64}
 use Rattle.std.specs.Float.Ieee.{sub, div}
 use Rattle.statement.specs.Shape.{trapezoid}
@@ -37,3 +37,8 @@ pub record Dense (m w : ℕ) (a : ℕ → Float) (old new : List Float) (r : ℕ
   pub cols : (c : ℕ) → c < r → Ruled m a old new c
   pub stop : r < w → passes (a r) (inner m new r r (cell m old r r)) ≡ false
   pub outside : (x : ℕ) → trapezoid m w ≤ x → get_or new x nan ≡ get_or old x nan
+
+-- how many of w columns passed
+abbrev pub passed : ℕ → Result ⊤ ℕ → ℕ
+passed w (Ok _) = w
+passed w (Err c) = c

@@ -1,17 +1,18 @@
 // The dense factor of one trapezoid in place, column by column.
 #![tactic(auto)]
 
-ghost use Rattle.std.specs.Prelude.{◌≡◌, cond, ◌+◌, ◌-◌, ◌<◌, ◌≤◌, ltb, get_or, length, take};
+ghost use Rattle.std.specs.Prelude.{◌≡◌, cond, ◌+◌, ◌-◌, ◌<◌, ◌≤◌, ltb, get_or, length, is_ok, IfErr};
 ghost use Rattle.std.specs.Float.{nan, binary64};
 ghost use Rattle.std.specs.Float.Ieee.{sub};
 ghost use Rattle.statement.specs.Shape.{trapezoid};
 ghost use Rattle.statement.specs.Rules.{dot, singly, panel};
-ghost use Rattle.laws.specs.Lower.{among, lower_value, Lower};
+ghost use Rattle.laws.specs.Lower.{among, lower_value};
 ghost use Rattle.areas.specs.Touch.{Touched};
 ghost use Rattle.panel.specs.View.{cell};
-ghost use Rattle.panels.specs.Dense.{inner, Column, Dense};
+ghost use Rattle.panels.specs.Dense.{inner, Column, Dense, passed};
 
-use panel::{column_start, panel_entry, panel_start};
+use panel::{Panel, column_start, panel_start};
+use views::Lower;
 
 // From column c, the products of the columns from c0 before it, singly.
 fn singles(own: &mut [f64], m: usize, c0: usize, c: usize)
@@ -61,22 +62,22 @@ fn reduce(own: &mut [f64], work: &mut [f64], m: usize, c: usize)
     singles(own, m, c0, c);
 }
 
-// Column c of a trapezoid: reduced, tested, and divided by the root of its pivot.
-fn column(own: &mut [f64], work: &mut [f64], m: usize, c: usize, a: f64) -> bool
+// Column c of a trapezoid: reduced, tested, and divided by the root of its pivot. `Err(c)` where the pivot breaks the rule.
+fn column(own: &mut [f64], work: &mut [f64], m: usize, c: usize, a: f64) -> Result<(), usize>
     requires { (c < m) × (m ≤ 32768) × (trapezoid m c + (m - c) ≤ length own.old) × (m ≤ length work.old) }
-    ensures { Column m c a own.old own.new result }
+    ensures column { Column m c a own.old own.new (is_ok result) }
+    ensures here { IfErr result (λ e. e ≡ c) }
 {
     reduce(own, work, m, c);
-    let d = panel_entry(own, m, c, c);
-    if root::good_pivot(a, d) {
-        let at = column_start(m, c);
-        let r = root::root(d);
-        own[at] = r;
-        products::divide(own, at + 1, m - c - 1, r);
-        true
-    } else {
-        false
+    let d = Panel { m, values: own }.at(c, c);
+    if !root::good_pivot(a, d) {
+        return Err(c);
     }
+    let at = column_start(m, c);
+    let r = root::root(d);
+    own[at] = r;
+    products::divide(own, at + 1, m - c - 1, r);
+    Ok(())
 }
 
 // The value at row i among the places from t0 below t1, 0.0 if there is none.
@@ -84,53 +85,45 @@ fn find(rows: &[usize], vals: &[f64], t0: usize, t1: usize, i: usize) -> f64
     requires { (t0 ≤ t1) × (t1 ≤ length rows.now) × (t1 ≤ length vals.now) }
     ensures { result ≡ among rows.now vals.now t0 t1 i }
 {
-    let mut t = t0;
-    while t < t1 {
+    for t in t0..t1 {
         if rows[t] == i {
             return vals[t];
         }
-        t += 1;
     }
     0.0
 }
 
 // A(j,j).
-fn diagonal(starts: &[usize], rows: &[usize], vals: &[f64], j: usize, n: usize) -> f64
-    requires lower { Lower starts.now rows.now vals.now n }
-    requires j_lt_n { j < n }
-    ensures { result ≡ lower_value starts.now rows.now vals.now j j }
+fn diagonal(lower: &Lower<'_>, j: usize) -> f64
+    requires j_lt_n { j < lower.now.n }
+    ensures { result ≡ lower_value lower.now.starts.now lower.now.rows.now lower.now.values.now j j }
 {
-    let t0 = starts[j];
-    let t1 = starts[j + 1];
-    find(rows, vals, t0, t1, j)
+    find(
+        lower.rows,
+        lower.values,
+        lower.starts[j],
+        lower.starts[j + 1],
+        j,
+    )
 }
 
-// The dense factor of w columns of an m-row trapezoid in place; f is the first of them. The number of columns that passed. The first a floats are
-// A's values, the work space stands after them.
+// The dense factor of w columns of an m-row trapezoid in place; f is the first of them. `Err(c)`: the pivot of column c is the first that breaks
+// the rule.
 pub fn dense(
     own: &mut [f64],
-    floats: &mut [f64],
-    a: usize,
+    work: &mut [f64],
     m: usize,
     w: usize,
     f: usize,
-    starts: &[usize],
-    rows: &[usize],
-    n: usize,
-) -> usize
-    requires w_le_m { (w ≤ m) × (m ≤ 32768) × (trapezoid m w ≤ length own.old) × (a + m ≤ length floats.old) × (f + w ≤ n) }
-    requires lower { Lower starts.now rows.now (take a floats.old) n }
-    ensures dense { Dense m w (λ c. lower_value starts.now rows.now (take a floats.old) (f + c) (f + c)) own.old own.new result }
-    ensures floats_unchanged { take a floats.new ≡ take a floats.old }
+    lower: &Lower<'_>,
+) -> Result<(), usize>
+    requires { (w ≤ m) × (m ≤ 32768) × (trapezoid m w ≤ length own.old) × (m ≤ length work.old) × (f + w ≤ lower.now.n) }
+    ensures dense { Dense m w (λ c. lower_value lower.now.starts.now lower.now.rows.now lower.now.values.now (f + c) (f + c)) own.old own.new (passed w result) }
+    ensures breaks { IfErr result (λ c. c < w) }
 {
-    let mut c = 0;
-    while c < w {
-        let d = diagonal(starts, rows, &floats[..a], f + c, n);
-        if column(own, &mut floats[a..], m, c, d) {
-            c += 1;
-        } else {
-            return c;
-        }
+    for c in 0..w {
+        let d = diagonal(lower, f + c);
+        column(own, work, m, c, d)?;
     }
-    w
+    Ok(())
 }

@@ -19,11 +19,7 @@ pub fn clear(w: &mut [f64], n: usize)
     requires { n ≤ length w.old }
     ensures { Touched nan w.old w.new n (λ i. i) (λ i. +0) }
 {
-    let mut i = 0;
-    while i < n {
-        w[i] = 0.0;
-        i += 1;
-    }
+    w[..n].fill(0.0);
 }
 
 // w is the products of the n places from s0 with the first of them, each as a sum of one.
@@ -32,10 +28,8 @@ fn set1(w: &mut [f64], v: &[f64], s0: usize, n: usize)
     ensures { Touched nan w.old w.new n (λ i. i) (λ i. plus v.now s0 i +0) }
 {
     let a0 = v[s0];
-    let mut i = 0;
-    while i < n {
+    for i in 0..n {
         w[i] = 0.0 + v[s0 + i] * a0;
-        i += 1;
     }
 }
 
@@ -45,10 +39,8 @@ fn add1(w: &mut [f64], v: &[f64], s0: usize, n: usize)
     ensures { Touched nan w.old w.new n (λ i. i) (λ i. plus v.now s0 i (get_or w.old i nan)) }
 {
     let a0 = v[s0];
-    let mut i = 0;
-    while i < n {
+    for i in 0..n {
         w[i] = w[i] + v[s0 + i] * a0;
-        i += 1;
     }
 }
 
@@ -61,10 +53,8 @@ fn set4(w: &mut [f64], v: &[f64], s0: usize, s1: usize, s2: usize, s3: usize, n:
     let a1 = v[s1];
     let a2 = v[s2];
     let a3 = v[s3];
-    let mut i = 0;
-    while i < n {
+    for i in 0..n {
         w[i] = (((0.0 + v[s0 + i] * a0) + v[s1 + i] * a1) + v[s2 + i] * a2) + v[s3 + i] * a3;
-        i += 1;
     }
 }
 
@@ -77,10 +67,8 @@ fn add4(w: &mut [f64], v: &[f64], s0: usize, s1: usize, s2: usize, s3: usize, n:
     let a1 = v[s1];
     let a2 = v[s2];
     let a3 = v[s3];
-    let mut i = 0;
-    while i < n {
+    for i in 0..n {
         w[i] = (((w[i] + v[s0 + i] * a0) + v[s1 + i] * a1) + v[s2 + i] * a2) + v[s3 + i] * a3;
-        i += 1;
     }
 }
 
@@ -109,14 +97,12 @@ fn add8(
     let a5 = v[s5];
     let a6 = v[s6];
     let a7 = v[s7];
-    let mut i = 0;
-    while i < n {
+    for i in 0..n {
         w[i] = (((((((w[i] + v[s0 + i] * a0) + v[s1 + i] * a1) + v[s2 + i] * a2) + v[s3 + i] * a3)
             + v[s4 + i] * a4)
             + v[s5 + i] * a5)
             + v[s6 + i] * a6)
             + v[s7 + i] * a7;
-        i += 1;
     }
 }
 
@@ -126,12 +112,10 @@ fn by_ones(work: &mut [f64], v: &[f64], m: usize, q: usize, kw: usize, from: usi
     ensures { Touched nan work.old work.new (m - q) (λ i. i) (λ i. dot (cell m v.now (q + i)) (cell m v.now q) kw) }
 {
     let n = m - q;
-    let mut k = from;
     let mut src = column_start(m, from) + q - from;
-    while k < kw {
+    for k in from..kw {
         add1(work, v, src, n);
         src = src + m - k - 1;
-        k += 1;
     }
 }
 
@@ -206,10 +190,8 @@ pub fn subtract_run(own: &mut [f64], at: usize, work: &[f64], n: usize)
     requires { (n ≤ length work.now) × (at + n ≤ length own.old) }
     ensures { Touched nan own.old own.new n (λ i. at + i) (λ i. sub binary64 (get_or own.old (at + i) nan) (get_or work.now i nan)) }
 {
-    let mut i = 0;
-    while i < n {
+    for i in 0..n {
         own[at + i] = own[at + i] - work[i];
-        i += 1;
     }
 }
 
@@ -219,10 +201,8 @@ pub fn sub1(own: &mut [f64], dst: usize, src: usize, n: usize)
     ensures { Touched nan own.old own.new n (λ i. dst + i) (λ i. less own.old src i (get_or own.old (dst + i) nan)) }
 {
     let a = own[src];
-    let mut i = 0;
-    while i < n {
+    for i in 0..n {
         own[dst + i] = own[dst + i] - own[src + i] * a;
-        i += 1;
     }
 }
 
@@ -235,11 +215,9 @@ pub fn sub4(own: &mut [f64], dst: usize, s0: usize, s1: usize, s2: usize, s3: us
     let a1 = own[s1];
     let a2 = own[s2];
     let a3 = own[s3];
-    let mut i = 0;
-    while i < n {
+    for i in 0..n {
         own[dst + i] = (((own[dst + i] - own[s0 + i] * a0) - own[s1 + i] * a1) - own[s2 + i] * a2)
             - own[s3 + i] * a3;
-        i += 1;
     }
 }
 
@@ -249,10 +227,8 @@ pub fn subtract_product(own: &mut [f64], dst: usize, src: usize, n: usize)
     ensures { Touched nan own.old own.new n (λ i. dst + i) (λ i. sub binary64 (get_or own.old (dst + i) nan) (plus own.old src i +0)) }
 {
     let a = own[src];
-    let mut i = 0;
-    while i < n {
+    for i in 0..n {
         own[dst + i] = own[dst + i] - (0.0 + own[src + i] * a);
-        i += 1;
     }
 }
 
@@ -261,9 +237,7 @@ pub fn divide(own: &mut [f64], at: usize, n: usize, r: f64)
     requires { at + n ≤ length own.old }
     ensures { Touched nan own.old own.new n (λ i. at + i) (λ i. div binary64 (get_or own.old (at + i) nan) r) }
 {
-    let mut i = 0;
-    while i < n {
+    for i in 0..n {
         own[at + i] = own[at + i] / r;
-        i += 1;
     }
 }

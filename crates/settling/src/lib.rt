@@ -15,6 +15,7 @@ use run::run;
 use statement::{Order, Outcome, Stop, Update};
 use survey::{Findings, stale, supernodes};
 use update::clear;
+use views::Structure;
 
 // Where x is refused nothing is laid or run, and every area is cleared.
 pub fn settle(
@@ -58,8 +59,14 @@ pub fn settle(
     let t = steps(x, stop);
     let total = entries(x);
     let a = input_rows.len();
+    let structure = Structure {
+        n,
+        firsts,
+        starts,
+        rows,
+    };
     let least = run(
-        t, ns, n, a, total, firsts, starts, rows, groups, updates, words, floats, values,
+        t, ns, a, total, &structure, groups, updates, words, floats, values,
     );
     let made = finish(
         x,

@@ -10,7 +10,7 @@ ghost use Rattle.checks.specs.Shown.{walk_of};
 ghost use Rattle.solve.specs.Found.{Owned};
 
 use checks::{Walked, cut, offset, solvable, viewable};
-use panel::panel_column;
+use panel::Panel;
 use sides::{sides_answer, solve_sides};
 use statement::{Answer, Factored, Record};
 use views::Factor;
@@ -85,7 +85,11 @@ fn column_part<'a>(walked: &Walked<'_>, values: &'a [f64], q: usize) -> &'a [f64
     let c = q - walked.firsts[k];
     let m = walked.starts[k + 1] - walked.starts[k];
     let off = offset(walked, k);
-    panel_column(&values[off..], m, c)
+    Panel {
+        m,
+        values: &values[off..],
+    }
+    .column(c)
 }
 
 // The part of the values that is one column, diagonal first; empty on failure or for a column not below n.

@@ -13,7 +13,7 @@ pub mod full;
 
 use forward_four::forward4;
 pub use full::Full;
-use panel::{column_start, panel_column};
+use panel::{Panel, column_start};
 
 // x, less the value times y at each row.
 fn subtract(rows: &[usize], values: &[f64], y: f64, x: &mut [f64])
@@ -125,10 +125,10 @@ fn forward_fours(rows: &[usize], values: &[f64], f: usize, w: usize, x: &mut [f6
     let mut c: usize = 0;
     while c + 4 <= w {
         forward4(
-            panel_column(values, m, c),
-            panel_column(values, m, c + 1),
-            panel_column(values, m, c + 2),
-            panel_column(values, m, c + 3),
+            Panel { m, values }.column(c),
+            Panel { m, values }.column(c + 1),
+            Panel { m, values }.column(c + 2),
+            Panel { m, values }.column(c + 3),
             f + c,
             x,
         );
@@ -145,7 +145,7 @@ fn forward_columns(rows: &[usize], values: &[f64], f: usize, w: usize, x: &mut [
     let m = rows.len();
     let done = forward_fours(rows, values, f, w, x);
     for c in done..w {
-        forward_column(&rows[c..], panel_column(values, m, c), f + c, x);
+        forward_column(&rows[c..], Panel { m, values }.column(c), f + c, x);
     }
 }
 
@@ -156,7 +156,7 @@ fn backward_columns(rows: &[usize], values: &[f64], f: usize, w: usize, x: &mut 
 {
     let m = rows.len();
     for c in (0..w).rev() {
-        backward_column(&rows[c..], panel_column(values, m, c), f + c, x);
+        backward_column(&rows[c..], Panel { m, values }.column(c), f + c, x);
     }
 }
 

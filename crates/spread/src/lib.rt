@@ -38,12 +38,10 @@ pub fn store_through(
     requires n_in_bounds { at + n ≤ length vals.now }
     ensures { Touched nan own.old own.new n (through place.now rows.now base at) (λ i. get_or vals.now (at + i) nan) }
 {
-    let mut i = 0;
-    while i < n {
+    for i in 0..n {
         let r = rows[at + i];
         let p = base + place[r];
         own[p] = vals[at + i];
-        i += 1;
     }
 }
 
@@ -61,12 +59,10 @@ fn subtract_through(
     requires n_in_bounds { n ≤ length work.now }
     ensures { Touched nan own.old own.new n (through place.now rows.now base at) (λ i. sub binary64 (get_or own.old (through place.now rows.now base at i) nan) (get_or work.now i nan)) }
 {
-    let mut i = 0;
-    while i < n {
+    for i in 0..n {
         let r = rows[at + i];
         let p = base + place[r];
         own[p] = own[p] - work[i];
-        i += 1;
     }
 }
 
@@ -108,12 +104,10 @@ fn product_through(
     ensures { Touched nan own.old own.new n (through place.now rows.now base at) (λ i. sub binary64 (get_or own.old (through place.now rows.now base at i) nan) (plus own.old src i +0)) }
 {
     let a = own[src];
-    let mut i = 0;
-    while i < n {
+    for i in 0..n {
         let r = rows[at + i];
         let p = base + place[r];
         own[p] = own[p] - (0.0 + own[src + i] * a);
-        i += 1;
     }
 }
 

@@ -11,7 +11,9 @@ use lib.Ieee.{Float, nan, binary64, sub, div}
 use Rattle.laws.proofs.Entry.{place_lt, get_d_place, has_of_place, dot_same, singly_same, Col}
 use Rattle.laws.proofs.Stretches.{offset_suc}
 use Rattle.laws.proofs.Inplace.{spot_lt}
-use Rattle.step.specs.declared.StepAnswer.TheVariants.{Made, Broke}
+use Rattle.std.specs.Prelude.{Ok, Err}
+use Rattle.assembly.specs.Ready.{supernode_of}
+use Rattle.assembly.specs.declared.Supernode.{Supernode}
 use Rattle.areas.specs.Touch.{Touched}
 use Rattle.panel.specs.View.{cell}
 use Rattle.panels.specs.Dense.{inner, Dense}
@@ -78,9 +80,9 @@ cleared S v v2 own J off n e room long low high en t =
         ext_get_or nan (take (size S J) own) (replicate (size S J) +0) (len ∙ sym (length-replicate (size S J) +0))
         (λ i q. let l : i < size S J = omega (arith, len) in get_or-take (size S J) own i nan l ∙ t.inside i (omega arith) ∙ sym (get_or-replicate (size S J) i +0 nan l))
 
-pub dense_as : (starts rows : List ℕ) (l l' : List Float) (m m' w w' f : ℕ) (old new : List Float) (r : ℕ) → l ≡ l' → m ≡ m' → w ≡ w' →
-    Dense m w (λ c. lower_value starts rows l (f + c) (f + c)) old new r → Dense m' w' (λ c. lower_value starts rows l' (f + c) (f + c)) old new r
-dense_as starts rows l l' m m' w w' f old new r e₁ e₂ e₃ d = rw (← e₁, ← e₂, ← e₃) d
+pub dense_as : (starts rows : List ℕ) (l : List Float) (k k' : Supernode) (old new : List Float) (r : ℕ) → k ≡ k' →
+    Dense k.height k.width (λ c. lower_value starts rows l (k.first + c) (k.first + c)) old new r → Dense k'.height k'.width (λ c. lower_value starts rows l (k'.first + c) (k'.first + c)) old new r
+dense_as starts rows l k k' old new r e d = rw (← e) d
 
 module _ (S : Shape) {N : ℕ} (b : Rows S N) (J : ℕ) (h : J < N) (A : ℕ → ℕ → Float) (v0 v1 own : List Float) (off : ℕ) (e : off ≡ offset S J) (room : offset S (suc J) ≤ length v0)
     (g : Assembled S A J v0 v1) (r : ℕ) (d : Dense (height S J) (width S J) (λ c. A (first S J + c) (first S J + c)) (part.mid nan v1 off) own r) where
@@ -177,7 +179,7 @@ module _ (S : Shape) {N : ℕ} (b : Rows S N) (J : ℕ) (h : J < N) (A : ℕ →
     put_is : v2 ≡ put S v0 J (take (size S J) own)
     put_is = e₂ ∙ put_ext S v0 (part.back nan v1 off own) (take (size S J) own) J long room low high stretch_is
 
-    pub ended_made : width S J ≤ r → Stepped S A J v0 v2 Made
+    pub ended_made : width S J ≤ r → Stepped S A J v0 v2 (Ok tt)
     unfolding answer_of leaves
     ended_made l = record { answer = ap answer_of (sym made_is); values = put_is ∙ ap (leaves S v0 J) (sym made_is) }
       where
@@ -186,9 +188,9 @@ module _ (S : Shape) {N : ℕ} (b : Rows S N) (J : ℕ) (h : J < N) (A : ℕ →
             rule.step_made S A v0 J (b.tall J h) starts (λ p k. gather.at_place S b J p h k) (λ c k. b.own J c h k) (take (size S J) own) sized r d.upto ruled (omega (arith, d.upto))
 
     pub ended_broke : (own' : List Float) (n : ℕ) (x : ℕ) → r < width S J → n ≡ trapezoid (height S J) (width S J) → x ≡ first S J + r →
-        Touched nan (part.mid nan v2 off) own' n (λ i. i) (λ i. +0) → Stepped S A J v0 (part.back nan v2 off own') (Broke (record { 0 = x }))
+        Touched nan (part.mid nan v2 off) own' n (λ i. i) (λ i. +0) → Stepped S A J v0 (part.back nan v2 off own') (Err (record { 0 = x }))
     unfolding answer_of leaves
-    ended_broke own' n x l en ex t = record { answer = ap (λ c. Broke (record { 0 = c })) ex ∙ ap answer_of (sym broke_is); values = zeros_is ∙ ap (leaves S v0 J) (sym broke_is) }
+    ended_broke own' n x l en ex t = record { answer = ap (λ c. Err (record { 0 = c })) ex ∙ ap answer_of (sym broke_is); values = zeros_is ∙ ap (leaves S v0 J) (sym broke_is) }
       where
         broke_is : step S A v0 J ≡ broke (record { 0 = first S J + r })
         broke_is =

@@ -26,7 +26,8 @@ use Rattle.laws.proofs.Agree.{Alike, stretch_agree, put_agree, zeros_agree, step
 use Rattle.assembly.specs.Ready.{row, Rows, from, source, low, high, Listed}
 use Rattle.step.specs.Laid.{Laid}
 use Rattle.step.specs.Answer.{answer_of, leaves, Stepped}
-use Rattle.step.specs.declared.StepAnswer.{StepAnswer}
+use Rattle.std.specs.Prelude.{⊤, Result}
+use Rattle.statement.specs.declared.Factored.{Factored}
 
 -- updates that are the same below count
 pub listed_same : (S : Shape) (J : ℕ) (upd upd' : ℕ → Update) (count : ℕ) → ((u : ℕ) → u < count → upd' u ≡ upd u) → Listed S J upd count → Listed S J upd' count
@@ -102,7 +103,7 @@ module _ (T S : Shape) (J : ℕ) (a : Alike T S J) where
   leaves_agree v (broke c) = rw (zeros_agree T S J a) (put_agree T S J a v _)
 
   -- what the step leaves at T, at S
-  pub stepped_alike : (A : ℕ → ℕ → Float) (old new : List Float) (r : StepAnswer) → Stepped T A J old new r → Stepped S A J old new r
+  pub stepped_alike : (A : ℕ → ℕ → Float) (old new : List Float) (r : Result ⊤ Factored) → Stepped T A J old new r → Stepped S A J old new r
   stepped_alike A old new r t =
       record {
         answer = t.answer ∙ ap answer_of same;

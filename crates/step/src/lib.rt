@@ -1,57 +1,53 @@
 // One supernode's step: its stretch of the values from A and the earlier supernodes' stretches.
 #![tactic(auto)]
 
-ghost use Rattle.std.specs.Prelude.{◌≡◌, length, take};
-ghost use Rattle.laws.specs.Lent.{laid};
+ghost use Rattle.std.specs.Prelude.{◌≡◌, ◌<◌, length, IfErr};
 ghost use Rattle.laws.specs.Lower.{lower_value};
+ghost use Rattle.views.specs.Shown.{shape_of};
 ghost use Rattle.step.specs.Answer.{Ready, Stepped};
 
-use assembly::assemble;
+use assembly::{Supernode, assemble};
 use products::clear;
 use statement::Factored;
-
-#[derive(Clone, Copy)]
-pub enum StepAnswer {
-    Made,
-    // the first column whose pivot breaks the rule
-    Broke(Factored),
-}
+use views::{Lower, Structure};
 
 // The step of the supernode j, whose rows' positions stand in place: its stretch of the values becomes what the entry rules make of A and of the
-// earlier supernodes' stretches as they stand, or zeros where a pivot breaks the rule. Nothing else of the values is changed. The first a floats
-// are A's values, the work space stands after them.
+// earlier supernodes' stretches as they stand, or zeros where a pivot breaks the rule: `Err` is the first column whose pivot does. Nothing else of
+// the values is changed.
 pub fn step(
     j: usize,
-    n: usize,
-    a: usize,
-    first: &[usize],
-    starts: &[usize],
-    rows: &[usize],
-    offs: &[usize],
+    structure: &Structure<'_>,
+    offsets: &[usize],
     upd: &[usize],
     count: usize,
-    astarts: &[usize],
-    arows: &[usize],
+    lower: &Lower<'_>,
     values: &mut [f64],
-    floats: &mut [f64],
+    work: &mut [f64],
     place: &[usize],
-) -> StepAnswer
-    requires { Ready (laid n first.now starts.now rows.now) j a offs.now upd.now count astarts.now arows.now floats.old (length values.old) place.now }
-    ensures stepped { Stepped (laid n first.now starts.now rows.now) (lower_value astarts.now arows.now (take a floats.old)) j values.old values.new result }
-    ensures floats_unchanged { take a floats.new ≡ take a floats.old }
+) -> Result<(), Factored>
+    requires { Ready (shape_of structure.now) j offsets.now upd.now count lower.now.n lower.now.starts.now lower.now.rows.now (length values.old) (length work.old) place.now }
+    ensures stepped { Stepped (shape_of structure.now) (lower_value lower.now.starts.now lower.now.rows.now lower.now.values.now) j values.old values.new result }
+    ensures below { IfErr result (λ c. c.0 < structure.now.n) }
 {
-    let f = first[j];
-    let w = first[j + 1] - f;
-    let m = starts[j + 1] - starts[j];
-    let off = offs[j];
+    let own = Supernode::of(j, structure, offsets);
     assemble(
-        values, j, off, m, w, f, n, a, first, starts, rows, offs, upd, count, astarts, arows,
-        floats, place,
+        values, j, &own, structure, offsets, upd, count, lower, work, place,
     );
-    let c = panels::dense(&mut values[off..], floats, a, m, w, f, astarts, arows, n);
-    if c < w {
-        clear(&mut values[off..], panel::column_start(m, w));
-        return StepAnswer::Broke(Factored(f + c));
+    match panels::dense(
+        &mut values[own.offset..],
+        work,
+        own.height,
+        own.width,
+        own.first,
+        lower,
+    ) {
+        Ok(()) => Ok(()),
+        Err(c) => {
+            clear(
+                &mut values[own.offset..],
+                panel::column_start(own.height, own.width),
+            );
+            Err(Factored(own.first + c))
+        }
     }
-    StepAnswer::Made
 }

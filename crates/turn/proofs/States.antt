@@ -17,8 +17,7 @@ use Rattle.statement.specs.Rules.{Out, made, broke, step}
 use Rattle.statement.specs.Run.{State, blocked, fate_of, lesser, settle, fate}
 use Rattle.laws.proofs.Loops.{blocked_cons}
 use Rattle.updates.specs.Layout.{owners_at, parents_at}
-use Rattle.step.specs.declared.StepAnswer.{StepAnswer}
-use Rattle.step.specs.declared.StepAnswer.TheVariants.{Made, Broke}
+use Rattle.std.specs.Prelude.{⊤, Result, Ok, Err}
 use Rattle.step.proofs.Link.{stepped_alike}
 use Rattle.step.specs.Answer.{answer_of, leaves, Stepped}
 use Rattle.statement.specs.declared.Factored.{Factored}
@@ -86,12 +85,12 @@ module _ (S : Shape) (ns J : ℕ) (k : J < ns) (up : (K : ℕ) → K < ns → K 
     kept words' b l e M m = sym (get_or-take b words' M 0 (omega arith)) ∙ ap (λ x. get_or x M 0) e ∙ get_or-take b words M 0 (omega arith) ∙ i.flags M m
 
     module _ (words' : List ℕ) (b : ℕ) (l : ns ≤ b) (e : take b words' ≡ take b words) (z : get_or words J 0 ≡ 0) (values' : List Float) where
-      made_by : (o : Out) → Made ≡ answer_of o → values' ≡ leaves S s.values J o → Is S ns (settle S s J (fate_of false o)) values' least words'
+      made_by : (o : Out) → Ok tt ≡ answer_of o → values' ≡ leaves S s.values J o → Is S ns (settle S s J (fate_of false o)) values' least words'
       unfolding fate_of settle answer_of leaves
       made_by (made x) q v = record { held = v; low = i.low; flags = kept words' b l e }
       made_by (broke c) q v = absurd (let w : ◌≡◌ {A = ℕ} 0 1 = cc q in omega arith)
 
-      broke_by : (c : Factored) (o : Out) → Broke c ≡ answer_of o → values' ≡ leaves S s.values J o → parent_of S J < length words' →
+      broke_by : (c : Factored) (o : Out) → Err c ≡ answer_of o → values' ≡ leaves S s.values J o → parent_of S J < length words' →
           Is S ns (settle S s J (fate_of false o)) values' (lesser c least) (set words' (parent_of S J) 1)
       unfolding fate_of settle answer_of leaves
       broke_by c (made x) q v r = absurd (let w : ◌≡◌ {A = ℕ} 0 1 = cc q in omega arith)
@@ -102,20 +101,20 @@ module _ (S : Shape) (ns J : ℕ) (k : J < ns) (up : (K : ℕ) → K < ns → K 
             flags = mark s.halted words' r (kept words' b l e);
           }
 
-      stepped_at : (r : StepAnswer) → Stepped S A J values values' r → (r ≡ answer_of (step S A s.values J)) × (values' ≡ leaves S s.values J (step S A s.values J))
+      stepped_at : (r : Result ⊤ Factored) → Stepped S A J values values' r → (r ≡ answer_of (step S A s.values J)) × (values' ≡ leaves S s.values J (step S A s.values J))
       stepped_at r t = (t.answer ∙ ap (λ v. answer_of (step S A v J)) i.held, t.values ∙ ap (λ v. leaves S v J (step S A v J)) i.held)
 
-      pub done : Stepped S A J values values' Made → Is S ns (settle S s J (fate S A s J)) values' least words'
+      pub done : Stepped S A J values values' (Ok tt) → Is S ns (settle S s J (fate S A s J)) values' least words'
       unfolding fate
-      done t = let q = stepped_at Made t in rw (free s.halted words i.flags z) (made_by (step S A s.values J) q.0 q.1)
+      done t = let q = stepped_at (Ok tt) t in rw (free s.halted words i.flags z) (made_by (step S A s.values J) q.0 q.1)
 
-      pub fail : (c : Factored) → Stepped S A J values values' (Broke c) → parent_of S J < length words' →
+      pub fail : (c : Factored) → Stepped S A J values values' (Err c) → parent_of S J < length words' →
           Is S ns (settle S s J (fate S A s J)) values' (lesser c least) (set words' (parent_of S J) 1)
       unfolding fate
-      fail c t r = let q = stepped_at (Broke c) t in rw (free s.halted words i.flags z) (broke_by c (step S A s.values J) q.0 q.1 r)
+      fail c t r = let q = stepped_at (Err c) t in rw (free s.halted words i.flags z) (broke_by c (step S A s.values J) q.0 q.1 r)
 
-module _ (n : ℕ) (F St R : List ℕ) (ns a : ℕ) (groups words : List ℕ) (floats values : List Float) (entries : ℕ)
-    (t : Due n F St R ns a groups words floats entries) (A : ℕ → ℕ → Float) (J : ℕ) (k : J < ns) (least : Factored) (p : ℕ) (e : p ≡ get_or words (parents_at n + J) 0) where
+module _ (n : ℕ) (F St R : List ℕ) (ns : ℕ) (groups words : List ℕ) (matrix values : List Float) (entries wlen : ℕ)
+    (t : Due n F St R ns groups words matrix entries wlen) (A : ℕ → ℕ → Float) (J : ℕ) (k : J < ns) (least : Factored) (p : ℕ) (e : p ≡ get_or words (parents_at n + J) 0) where
   abbrev S : Shape
   S = under n F St R (drop (parents_at n) words)
 
@@ -134,44 +133,41 @@ module _ (n : ℕ) (F St R : List ℕ) (ns a : ℕ) (groups words : List ℕ) (f
   pub p_in : p < length words
   p_in = omega (arith, t.top J k, (t.at J k).inside)
 
-  pub skipped : (get_or words J 0 ≡ 0 → ⊥) → Turned S A ns J a least least words (set words p 1) floats floats values values
+  pub skipped : (get_or words J 0 ≡ 0 → ⊥) → Turned S A ns J least least words (set words p 1) values values
   skipped z =
       record {
         next = λ s i. rw p_is (skip S ns J k up A s values least words i (omega (arith, p_is, p_in)) z);
         rest = drop-set-lt (owners_at n) words p 1 (omega (arith, p_low));
-        matrix = refl;
         sized = refl;
       }
 
-  module _ (z : get_or words J 0 ≡ 0) (words' : List ℕ) (floats' values' : List Float) (f : take a floats' ≡ take a floats) (w : take (n + 1) words' ≡ take (n + 1) words)
+  module _ (z : get_or words J 0 ≡ 0) (words' : List ℕ) (values' : List Float) (w : take (n + 1) words' ≡ take (n + 1) words)
       (d : drop (owners_at n) words' ≡ drop (owners_at n) words) (l : length words' ≡ length words) (m : length values' ≡ length values) where
-    whole : (x r : StepAnswer) → x ≡ r → Stepped (laid n F St R) A J values values' x → Stepped S A J values values' r
+    whole : (x r : Result ⊤ Factored) → x ≡ r → Stepped (laid n F St R) A J values values' x → Stepped S A J values values' r
     whole x r h q = subst (Stepped S A J values values') h (stepped_alike (laid n F St R) S J (record { firsts = λ K h. refl; rows = λ K h. unfold rows_of in refl }) A values values' x q)
 
-    pub finished : (x : StepAnswer) → x ≡ Made → Stepped (laid n F St R) A J values values' x → Turned S A ns J a least least words words' floats floats' values values'
+    pub finished : (x : Result ⊤ Factored) → x ≡ Ok tt → Stepped (laid n F St R) A J values values' x → Turned S A ns J least least words words' values values'
     finished x h q =
         record {
-          next = λ s i. done S ns J k up A s values least words i words' (n + 1) (omega (arith, t.few)) w z values' (whole x Made h q);
+          next = λ s i. done S ns J k up A s values least words i words' (n + 1) (omega (arith, t.few)) w z values' (whole x (Ok tt) h q);
           rest = d;
-          matrix = f;
           sized = m;
         }
 
-    pub broken : (x : StepAnswer) (c r : Factored) (words'' : List ℕ) → r ≡ lesser c least → words'' ≡ set words' p 1 → x ≡ Broke c → Stepped (laid n F St R) A J values values' x →
-        Turned S A ns J a least r words words'' floats floats' values values'
+    pub broken : (x : Result ⊤ Factored) (c r : Factored) (words'' : List ℕ) → r ≡ lesser c least → words'' ≡ set words' p 1 → x ≡ Err c → Stepped (laid n F St R) A J values values' x →
+        Turned S A ns J least r words words'' values values'
     broken x c r words'' e₁ e₂ h q =
         record {
-          next = λ s i. rw (e₁, e₂, p_is) (fail S ns J k up A s values least words i words' (n + 1) (omega (arith, t.few)) w z values' c (whole x (Broke c) h q) (omega (arith, p_is, p_in)));
+          next = λ s i. rw (e₁, e₂, p_is) (fail S ns J k up A s values least words i words' (n + 1) (omega (arith, t.few)) w z values' c (whole x (Err c) h q) (omega (arith, p_is, p_in)));
           rest = ap (drop (owners_at n)) e₂ ∙ drop-set-lt (owners_at n) words' p 1 (omega (arith, p_low)) ∙ d;
-          matrix = f;
           sized = m;
         }
 
 -- the part of the values that a turn takes, put back
-pub over : (S : Shape) (A : ℕ → ℕ → Float) (ns J a : ℕ) (least r : Factored) (words words' : List ℕ) (floats floats' v w : List Float) (entries : ℕ) → entries ≤ length v → length w ≡ length (take entries v) →
-    Turned S A ns J a least r words words' floats floats' (take entries v) w →
-    (Turned S A ns J a least r words words' floats floats' (take entries v) (take entries (w ++ drop entries v))) × (drop entries (w ++ drop entries v) ≡ drop entries v)
-over S A ns J a least r words words' floats floats' v w entries h l t = (rw (take_at w (drop entries v) entries long) t, drop_at w (drop entries v) entries long)
+pub over : (S : Shape) (A : ℕ → ℕ → Float) (ns J : ℕ) (least r : Factored) (words words' : List ℕ) (v w : List Float) (entries : ℕ) → entries ≤ length v → length w ≡ length (take entries v) →
+    Turned S A ns J least r words words' (take entries v) w →
+    (Turned S A ns J least r words words' (take entries v) (take entries (w ++ drop entries v))) × (drop entries (w ++ drop entries v) ≡ drop entries v)
+over S A ns J least r words words' v w entries h l t = (rw (take_at w (drop entries v) entries long) t, drop_at w (drop entries v) entries long)
   where
     long : length w ≡ entries
     long = l ∙ length-take-le entries v h

@@ -1,5 +1,5 @@
 -- One supernode's turn: the positions of its rows are set among the words, and what is only read stays. Assumes nothing.
-use mathlib.Core.Path.{◌≡◌, sym, ap, ◌∙◌}
+use mathlib.Core.Path.{◌≡◌, refl, sym, ap, ◌∙◌}
 use mathlib.Core.List.{List, ◌++◌}
 use Prim.Native.Nat.{ℕ, suc, ◌+◌, ◌-◌, ◌≤◌, ◌<◌}
 use native.Mathlib.Omega.{arith}
@@ -9,14 +9,15 @@ use lib.ListN.{length, get_or, take, drop, get_or-append}
 use lib.Seq.{drop-drop}
 use lib.Ieee.{Float}
 use Rattle.statement.specs.Shape.{Shape, height}
-use Rattle.laws.specs.Lower.{lower_value}
+use Rattle.laws.specs.Lower.{lower_value, Lower}
 use Rattle.areas.specs.Touch.{Touched}
 use Rattle.areas.proofs.Part as part
 use Rattle.areas.proofs.Middle as middle
 use Rattle.updates.specs.Layout.{updates_at, owners_at, offsets_at, starts_at, rows_at}
 use Rattle.assembly.specs.Ready.{row, Rows}
 use Rattle.step.specs.Answer.{Ready, Stepped}
-use Rattle.step.specs.declared.StepAnswer.{StepAnswer}
+use Rattle.std.specs.Prelude.{⊤, Result}
+use Rattle.statement.specs.declared.Factored.{Factored}
 use Rattle.assembly.proofs.Gather as gather
 use Rattle.turn.specs.Turn.{DueAt, Fetched}
 
@@ -31,7 +32,7 @@ drop_same v w e x h q = back w ∙ ap (drop (x - e)) q ∙ sym (back v)
 pub later : (v w : List ℕ) (e x : ℕ) → e ≤ x → drop e w ≡ drop e v → part.mid 0 w x ≡ drop x v
 later v w e x h q = part.mid_is 0 w x ∙ drop_same v w e x h q
 
-module _ (S : Shape) (J a : ℕ) (groups words : List ℕ) (floats : List Float) (vlen : ℕ) (t : DueAt S J a groups words floats vlen) where
+module _ (S : Shape) (J : ℕ) (groups words : List ℕ) (matrix : List Float) (vlen wlen : ℕ) (t : DueAt S J groups words matrix vlen wlen) where
   abbrev e : ℕ
   e = updates_at S.n
 
@@ -84,14 +85,14 @@ module _ (S : Shape) (J a : ℕ) (groups words : List ℕ) (floats : List Float)
         ap (λ x. get_or pl x 0) (sym (gather.row_is S b J i (le_refl (suc J)) h)) ∙
         p.inside i (omega (arith, gather.height_code S b J (le_refl (suc J))))
 
-    pub ready : Fetched S J groups words → Ready S J a (part.mid 0 now (offsets_at S.n)) (part.mid 0 now e) (get_or groups (J + 1) 0 - get_or groups J 0) (part.mid 0 now (starts_at S.n)) (part.mid 0 now (rows_at S.n)) floats vlen (part.mid 0 now (S.n + 1))
+    pub ready : Fetched S J groups words → Ready S J (part.mid 0 now (offsets_at S.n)) (part.mid 0 now e) (get_or groups (J + 1) 0 - get_or groups J 0) S.n (part.mid 0 now (starts_at S.n)) (part.mid 0 now (rows_at S.n)) vlen wlen (part.mid 0 now (S.n + 1))
     ready f =
         record {
           shape = t.shape;
           updates = rw (next_is, past e (omega arith)) f.updates;
           words = omega (arith, next_is, f.fits, part.mid_length 0 now e, kept, t.inside);
           offsets = rw (past (offsets_at S.n) (omega arith)) t.offsets;
-          lower = rw (past (starts_at S.n) (omega arith), past (rows_at S.n) (omega arith)) t.lower;
+          columns = refl;
           pattern = rw (past (starts_at S.n) (omega arith), past (rows_at S.n) (omega arith)) t.pattern;
           values = t.values;
           work = t.work;
@@ -99,6 +100,10 @@ module _ (S : Shape) (J a : ℕ) (groups words : List ℕ) (floats : List Float)
           places = omega (arith, part.mid_length 0 now (S.n + 1), kept, room);
         }
 
-    pub stepped : (l r : List ℕ) (v old new : List Float) (x : StepAnswer) → l ≡ part.mid 0 now (starts_at S.n) → r ≡ part.mid 0 now (rows_at S.n) →
+    -- A's lower columns, as they are lent
+    pub lower_now : Lower (part.mid 0 now (starts_at S.n)) (part.mid 0 now (rows_at S.n)) matrix S.n
+    lower_now = rw (past (starts_at S.n) (omega arith), past (rows_at S.n) (omega arith)) t.lower
+
+    pub stepped : (l r : List ℕ) (v old new : List Float) (x : Result ⊤ Factored) → l ≡ part.mid 0 now (starts_at S.n) → r ≡ part.mid 0 now (rows_at S.n) →
         Stepped S (lower_value l r v) J old new x → Stepped S (lower_value (drop (starts_at S.n) words) (drop (rows_at S.n) words) v) J old new x
     stepped l r v old new x e₁ e₂ q = rw (← past (starts_at S.n) (omega arith), ← past (rows_at S.n) (omega arith), ← e₁, ← e₂) q

@@ -1,7 +1,7 @@
 -- From the areas that the analysis leaves to what the run asks, and from the lent structure back to the whole one. Assumes nothing.
 use mathlib.Core.Path.{◌≡◌, sym, ap, ◌∙◌}
 use mathlib.Core.List.{List}
-use Prim.Native.Nat.{ℕ, suc, ◌+◌, ◌≤◌, ◌<◌}
+use Prim.Native.Nat.{ℕ, suc, ◌+◌, ◌-◌, ◌≤◌, ◌<◌}
 use native.Mathlib.Omega.{arith}
 use lib.ListN.{length, get_or, take, drop, length-append, length-drop}
 use lib.Seq.{get_or-drop}
@@ -36,7 +36,7 @@ module _ (S : Shape) (b : Built S) (s : Spans S) (F St R U : List ℕ) (us : Lis
       ((K : ℕ) → K < supernodes S → get_or words (offsets_at S.n + K) 0 ≡ offset S K) → ((K : ℕ) → K < supernodes S → get_or words (parents_at S.n + K) 0 ≡ parent_of S K) →
       ((K : ℕ) → K < supernodes S → parent_of S K ≤ S.n) → Lower (drop (starts_at S.n) words) (drop (rows_at S.n) words) (take a floats) S.n →
       ((J : ℕ) → J < supernodes S → Pattern S J (drop (starts_at S.n) words) (drop (rows_at S.n) words)) → offset S (supernodes S) ≤ entries → a + S.n ≤ length floats →
-      Due S.n F St R (supernodes S) a U words floats entries
+      Due S.n F St R (supernodes S) U words (take a floats) entries (length floats - a)
   due_of a words floats entries few less room offs parents top lower pattern values work =
       record {
         at = λ J h.
@@ -53,7 +53,7 @@ module _ (S : Shape) (b : Built S) (s : Spans S) (F St R U : List ℕ) (us : Lis
               lower = lower;
               pattern = link.pattern_alike T S J same (drop (starts_at S.n) words) (drop (rows_at S.n) words) (pattern J h);
               values = omega (arith, offset_agree T S J same (suc J) (omega arith), offset_mono S (supernodes S) (suc J) h);
-              work = work;
+              work = omega (arith, work);
             };
         few = less;
         up = λ K h. omega (arith, parents K h, b.up K h);
@@ -61,7 +61,7 @@ module _ (S : Shape) (b : Built S) (s : Spans S) (F St R U : List ℕ) (us : Lis
       }
 
   -- and t names and the flags
-  pub ready_of : (t a entries : ℕ) (words : List ℕ) (floats values : List Float) → Due S.n F St R (supernodes S) a U words floats entries → supernodes S ≤ S.n → t ≤ supernodes S →
+  pub ready_of : (t a entries : ℕ) (words : List ℕ) (floats values : List Float) → Due S.n F St R (supernodes S) U words (take a floats) entries (length floats - a) → supernodes S ≤ S.n → t ≤ supernodes S →
       ((p : ℕ) → p < t → get_or words (names_at S.n + p) 0 < supernodes S) → ((J : ℕ) → J < supernodes S → get_or words J 0 ≡ 0) → entries ≤ length values →
       RunReady t (supernodes S) S.n a entries F St R U us words floats values
   ready_of t a entries words floats values due less most names flags room =

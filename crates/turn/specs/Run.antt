@@ -1,5 +1,5 @@
 -- What the run asks and leaves. Definitions only.
-use Rattle.std.specs.Prelude.{◌≡◌, List, [], ℕ, suc, ◌+◌, ◌≤◌, ◌<◌, length, get_or, take, drop, Float}
+use Rattle.std.specs.Prelude.{◌≡◌, List, [], ℕ, suc, ◌+◌, ◌-◌, ◌≤◌, ◌<◌, length, get_or, take, drop, Float}
 use Rattle.laws.specs.Lent.{laid}
 use Rattle.statement.specs.Lists.{list}
 use Rattle.statement.specs.Shape.{Shape}
@@ -22,7 +22,7 @@ pub record Ran (S : Shape) (A : ℕ → ℕ → Float) (l : List ℕ) (values va
 
 -- t supernodes of ns are named among the words, each has its updates among us, and the flags are clear
 pub record RunReady (t ns n a entries : ℕ) (firsts starts rows groups : List ℕ) (us : List Update) (words : List ℕ) (floats values : List Float) : Type 0 where
-  pub due : Due n firsts starts rows ns a groups words floats entries
+  pub due : Due n firsts starts rows ns groups words (take a floats) entries (length floats - a)
   pub updates : (J : ℕ) → J < ns → (Listed (laid n firsts starts rows) J (from us (get_or groups J 0)) (count groups J)) × (get_or groups J 0 ≤ get_or groups (suc J) 0) × (get_or groups (suc J) 0 ≤ length us) × (count groups J ≤ n)
   pub most : t ≤ ns
   pub names : (p : ℕ) → p < t → get_or words (names_at n + p) 0 < ns

@@ -1,5 +1,5 @@
 -- What one turn of the run asks and leaves. Definitions only.
-use Rattle.std.specs.Prelude.{◌≡◌, List, ℕ, suc, ◌+◌, ◌*◌, ◌-◌, ◌≤◌, ◌<◌, length, get_or, set, take, drop, Float}
+use Rattle.std.specs.Prelude.{◌≡◌, List, ℕ, suc, ◌+◌, ◌*◌, ◌-◌, ◌≤◌, ◌<◌, length, get_or, set, drop, Float}
 use Rattle.laws.specs.Lent.{laid}
 use Rattle.statement.specs.Lists.{bit}
 use Rattle.statement.specs.Shape.{Shape, offset}
@@ -10,16 +10,16 @@ use Rattle.laws.specs.Lower.{Lower, Pattern}
 use Rattle.updates.specs.Layout.{updates_at, owners_at, offsets_at, parents_at, starts_at, rows_at}
 use Rattle.assembly.specs.Ready.{Rows, in_words, Listed, Offsets}
 
--- for the supernode J
-pub record DueAt (S : Shape) (J a : ℕ) (groups words : List ℕ) (floats : List Float) (vlen : ℕ) : Type 0 where
+-- for the supernode J: matrix are A's values, vlen and wlen the lengths of the values and of the work space
+pub record DueAt (S : Shape) (J : ℕ) (groups words : List ℕ) (matrix : List Float) (vlen wlen : ℕ) : Type 0 where
   pub shape : Rows S (suc J)
   pub grouped : suc J < length groups
   pub inside : rows_at S.n ≤ length words
   pub offsets : Offsets S J (drop (offsets_at S.n) words)
-  pub lower : Lower (drop (starts_at S.n) words) (drop (rows_at S.n) words) (take a floats) S.n
+  pub lower : Lower (drop (starts_at S.n) words) (drop (rows_at S.n) words) matrix S.n
   pub pattern : Pattern S J (drop (starts_at S.n) words) (drop (rows_at S.n) words)
   pub values : offset S (suc J) ≤ vlen
-  pub work : a + S.n ≤ length floats
+  pub work : S.n ≤ wlen
 
 -- how many updates J has, from where its own begin to where the next's do
 abbrev pub count : List ℕ → ℕ → ℕ
@@ -42,8 +42,8 @@ abbrev pub under : ℕ → List ℕ → List ℕ → List ℕ → List ℕ → S
 under n firsts starts rows parents = record { n = n; firsts = firsts; starts = starts; rows = rows; parents = parents }
 
 -- for any of the first ns supernodes
-pub record Due (n : ℕ) (firsts starts rows : List ℕ) (ns a : ℕ) (groups words : List ℕ) (floats : List Float) (entries : ℕ) : Type 0 where
-  pub at : (J : ℕ) → J < ns → DueAt (laid n firsts starts rows) J a groups words floats entries
+pub record Due (n : ℕ) (firsts starts rows : List ℕ) (ns : ℕ) (groups words : List ℕ) (matrix : List Float) (entries wlen : ℕ) : Type 0 where
+  pub at : (J : ℕ) → J < ns → DueAt (laid n firsts starts rows) J groups words matrix entries wlen
   pub few : ns ≤ n
   pub up : (K : ℕ) → K < ns → K < get_or words (parents_at n + K) 0
   pub top : (K : ℕ) → K < ns → get_or words (parents_at n + K) 0 ≤ n
@@ -59,8 +59,7 @@ pub record Is (S : Shape) (ns : ℕ) (s : State) (values : List Float) (least : 
   pub flags : Flagged S ns s.halted words
 
 -- what one turn leaves: from any state to the next, and what is only read as it was
-pub record Turned (S : Shape) (A : ℕ → ℕ → Float) (ns J a : ℕ) (least r : Factored) (words words' : List ℕ) (floats floats' values values' : List Float) : Type 0 where
+pub record Turned (S : Shape) (A : ℕ → ℕ → Float) (ns J : ℕ) (least r : Factored) (words words' : List ℕ) (values values' : List Float) : Type 0 where
   pub next : (s : State) → Is S ns s values least words → Is S ns (settle S s J (fate S A s J)) values' r words'
   pub rest : drop (owners_at S.n) words' ≡ drop (owners_at S.n) words
-  pub matrix : take a floats' ≡ take a floats
   pub sized : length values' ≡ length values

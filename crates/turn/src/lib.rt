@@ -2,9 +2,10 @@
 // keeps among the words (crates/updates/specs/Layout.antt).
 #![tactic(auto)]
 
-ghost use Rattle.std.specs.Prelude.{◌≡◌, suc, ◌+◌, ◌-◌, ◌≤◌, ◌<◌, length, get_or, set, take, drop};
+ghost use Rattle.std.specs.Prelude.{◌≡◌, ℕ, suc, ◌+◌, ◌-◌, ◌≤◌, ◌<◌, length, get_or, set, take, drop, IfErr, IfSome};
 ghost use Rattle.statement.specs.Run.{lesser};
-ghost use Rattle.laws.specs.Lent.{laid};
+ghost use Rattle.views.specs.Shown.{shape_of};
+ghost use Rattle.answers.specs.Least.{least_of};
 ghost use Rattle.laws.specs.Lower.{lower_value};
 ghost use Rattle.updates.specs.Layout.{owners_at, parents_at, names_at, starts_at, rows_at};
 ghost use Rattle.step.specs.Answer.{Stepped};
@@ -12,7 +13,7 @@ ghost use Rattle.turn.specs.Turn.{DueAt, Fetched, kept_at, under, Due, Turned};
 
 use answers::lesser;
 use statement::{Factored, Update};
-use step::StepAnswer;
+use views::{Lower, Structure};
 
 // The supernode at position p of the run.
 pub fn name(n: usize, p: usize, words: &[usize]) -> usize
@@ -52,90 +53,90 @@ pub fn keep(u: Update, i: usize, lo: usize, n: usize, words: &mut [usize])
 // The step of the supernode j, whose updates are at hand.
 fn one(
     j: usize,
-    n: usize,
-    a: usize,
-    firsts: &[usize],
-    starts: &[usize],
-    rows: &[usize],
+    structure: &Structure<'_>,
     groups: &[usize],
     words: &mut [usize],
-    floats: &mut [f64],
+    matrix: &[f64],
+    work: &mut [f64],
     values: &mut [f64],
-) -> StepAnswer
-    requires due_at { DueAt (laid n firsts.now starts.now rows.now) j a groups.now words.old floats.old (length values.old) }
-    requires fetched { Fetched (laid n firsts.now starts.now rows.now) j groups.now words.old }
-    ensures stepped { Stepped (laid n firsts.now starts.now rows.now) (lower_value (drop (starts_at n) words.old) (drop (rows_at n) words.old) (take a floats.old)) j values.old values.new result }
-    ensures floats_unchanged { (take a floats.new ≡ take a floats.old) × (take (n + 1) words.new ≡ take (n + 1) words.old) × (drop (owners_at n) words.new ≡ drop (owners_at n) words.old) }
+) -> Result<(), Factored>
+    requires due_at { DueAt (shape_of structure.now) j groups.now words.old matrix.now (length values.old) (length work.old) }
+    requires fetched { Fetched (shape_of structure.now) j groups.now words.old }
+    ensures stepped { Stepped (shape_of structure.now) (lower_value (drop (starts_at structure.now.n) words.old) (drop (rows_at structure.now.n) words.old) matrix.now) j values.old values.new result }
+    ensures words_unchanged { (take (structure.now.n + 1) words.new ≡ take (structure.now.n + 1) words.old) × (drop (owners_at structure.now.n) words.new ≡ drop (owners_at structure.now.n) words.old) }
+    ensures below { IfErr result (λ c. c.0 < structure.now.n) }
 {
-    let r0 = starts[j];
-    let m = starts[j + 1] - r0;
+    let n = structure.n;
+    let start = structure.starts[j];
+    let m = structure.starts[j + 1] - start;
     let count = groups[j + 1] - groups[j];
-    assembly::set_places(&mut words[n + 1..2 * n + 1], rows, r0, m);
+    assembly::set_places(&mut words[n + 1..2 * n + 1], structure.rows, start, m);
+    let lower = Lower {
+        n,
+        starts: &words[9 * n + 1..],
+        rows: &words[10 * n + 2..],
+        values: matrix,
+    };
     step::step(
         j,
-        n,
-        a,
-        firsts,
-        starts,
-        rows,
+        structure,
         &words[6 * n + 1..],
         &words[2 * n + 1..],
         count,
-        &words[9 * n + 1..],
-        &words[10 * n + 2..],
+        &lower,
         values,
-        floats,
+        work,
         &words[n + 1..],
     )
 }
 
 // The supernode whose parent is p failed at the column c: its parent is flagged, and the least failing column kept.
-fn failed(words: &mut [usize], p: usize, c: Factored, least: Factored) -> Factored
+fn failed(words: &mut [usize], p: usize, c: Factored, least: Option<Factored>) -> Factored
     requires { p < length words.old }
-    ensures { (result ≡ lesser c least) × (words.new ≡ set words.old p 1) }
+    ensures least { (n : ℕ) → c.0 < n → result ≡ lesser c (least_of n least) }
+    ensures words { words.new ≡ set words.old p 1 }
 {
     words[p] = 1;
-    lesser(c, least)
+    match least {
+        Some(b) => lesser(c, b),
+        None => c,
+    }
 }
 
-// One turn: a supernode with a halted child is skipped, and it or a failing one flags its parent. The stretches are the first entries of the
-// values. The least failing column.
+// One turn: a supernode with a halted child is skipped, and it or a failing one flags its parent. A's values are those of the matrix, the
+// stretches are the first entries of the values. The least failing column, if any.
 pub fn turn(
     j: usize,
-    least: Factored,
+    least: Option<Factored>,
     ns: usize,
-    n: usize,
-    a: usize,
     entries: usize,
-    firsts: &[usize],
-    starts: &[usize],
-    rows: &[usize],
+    structure: &Structure<'_>,
     groups: &[usize],
     words: &mut [usize],
-    floats: &mut [f64],
+    matrix: &[f64],
+    work: &mut [f64],
     values: &mut [f64],
-) -> Factored
-    requires { (Due n firsts.now starts.now rows.now ns a groups.now words.old floats.old entries) × (j < ns) × (Fetched (laid n firsts.now starts.now rows.now) j groups.now words.old) × (entries ≤ length values.old) }
-    ensures { (Turned (under n firsts.now starts.now rows.now (drop (parents_at n) words.old)) (lower_value (drop (starts_at n) words.old) (drop (rows_at n) words.old) (take a floats.old)) ns j a least result words.old words.new floats.old floats.new (take entries values.old) (take entries values.new)) × (drop entries values.new ≡ drop entries values.old) }
+) -> Option<Factored>
+    requires due { (Due structure.now.n structure.now.firsts.now structure.now.starts.now structure.now.rows.now ns groups.now words.old matrix.now entries (length work.old)) × (j < ns) × (Fetched (shape_of structure.now) j groups.now words.old) × (entries ≤ length values.old) }
+    requires below { IfSome least (λ c. c.0 < structure.now.n) }
+    ensures turned { (Turned (under structure.now.n structure.now.firsts.now structure.now.starts.now structure.now.rows.now (drop (parents_at structure.now.n) words.old)) (lower_value (drop (starts_at structure.now.n) words.old) (drop (rows_at structure.now.n) words.old) matrix.now) ns j (least_of structure.now.n least) (least_of structure.now.n result) words.old words.new (take entries values.old) (take entries values.new)) × (drop entries values.new ≡ drop entries values.old) }
+    ensures below { IfSome result (λ c. c.0 < structure.now.n) }
 {
-    let p = words[7 * n + 1 + j];
+    let p = words[7 * structure.n + 1 + j];
     if words[j] != 0 {
         words[p] = 1;
         return least;
     }
     match one(
         j,
-        n,
-        a,
-        firsts,
-        starts,
-        rows,
+        structure,
         groups,
         words,
-        floats,
+        matrix,
+        work,
         &mut values[..entries],
     ) {
-        StepAnswer::Made => least,
-        StepAnswer::Broke(c) => failed(words, p, c, least),
+        Ok(()) => least,
+        Err(c) => Some(failed(words, p, c, least)),
     }
 }

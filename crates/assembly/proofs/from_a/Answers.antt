@@ -2,7 +2,7 @@ use mathlib.Core.Path.{◌∙◌}
 use Prim.Native.Nat.{◌-◌}
 use native.Mathlib.Omega.{arith}
 use native.Mathlib.Nat.{le_refl}
-use Rattle.laws.specs.Lent.{laid}
+use Rattle.views.specs.Shown.{shape_of}
 use Rattle.assembly.proofs.Scatters as scat
 use Rattle.assembly.proofs.Gather as gather
 use Rattle.statement.specs.Shape.{first, size}
@@ -15,7 +15,7 @@ column_start-requires c =
     let f = pre.fresh in
     let b = pre.rows in
     let J = args.j in
-    let S = laid args.n args.first.now args.starts.now args.rows.now in
+    let S = shape_of args.structure.now in
     omega (arith, f.w_is, f.m_is, b.tall J (le_refl _), gather.height_le S b J (le_refl _), b.few)
 
 pub clear-requires : goal.clear-requires
@@ -23,10 +23,10 @@ clear-requires c =
     let args = c.args in
     let pre = c.requires in
     let column-start = c.column_start in
-    let S = laid args.n args.first.now args.starts.now args.rows.now in
+    let S = shape_of args.structure.now in
     let J = args.j in
     let f = pre.fresh in
-    let size = scat.size_code S J args.m args.w _ column-start.ensures f.m_is f.w_is in
+    let size = scat.size_code S J args.to.now.height args.to.now.width _ column-start.ensures f.m_is f.w_is in
     omega (arith, size, f.own)
 
 pub loop-c-init : goal.loop-c-init
@@ -35,13 +35,13 @@ loop-c-init c =
     let args = c.args in
     let pre = c.requires in
     let column-start = c.column_start in
-    let S = laid args.n args.first.now args.starts.now args.rows.now in
+    let S = shape_of args.structure.now in
     let J = args.j in
-    let as0 = args.astarts.now in
-    let ar = args.arows.now in
-    let av = args.avals.now in
+    let as0 = args.lower.now.starts.now in
+    let ar = args.lower.now.rows.now in
+    let av = args.lower.now.values.now in
     let f = pre.fresh in
-    let size = scat.size_code S J args.m args.w _ column-start.ensures f.m_is f.w_is in
+    let size = scat.size_code S J args.to.now.height args.to.now.width _ column-start.ensures f.m_is f.w_is in
     (omega arith, scat.column_none S J as0 ar av _ (λ x l. clear.ensures.inside x (omega (arith, size))))
 
 pub from_a_column-requires : goal.from_a_column-requires
@@ -51,17 +51,7 @@ from_a_column-requires c =
     let clear = c.clear in
     let loop-test = c.loop-c-test in
     let b = pre.rows in
-    let f = pre.fresh in record { rows = b; lower = pre.lower; pattern = pre.pattern; fresh = scat.fresh_as _ _ _ _ _ _ _ _ (loop.invariant.1.size ∙ clear.ensures.size) f; c_lt_w = loop-test.true }
-
-pub overflow_add-c : goal.overflow_add-c
-overflow_add-c c =
-    let loop-test = c.loop-c-test in
-    omega (arith, loop-test.true)
-
-pub loop-c-smaller : goal.loop-c-smaller
-loop-c-smaller c =
-    let loop-test = c.loop-c-test in
-    omega (arith, loop-test.true)
+    let f = pre.fresh in record { rows = b; pattern = pre.pattern; fresh = scat.fresh_as _ _ _ _ _ _ _ _ (loop.invariant.1.size ∙ clear.ensures.size) f; c_lt_w = loop-test.true }
 
 pub loop-c-preserved : goal.loop-c-preserved
 loop-c-preserved c =
@@ -70,15 +60,15 @@ loop-c-preserved c =
     let pre = c.requires in
     let loop = c.loop-c in
     let from-a-column = c.from_a_column in
-    let S = laid args.n args.first.now args.starts.now args.rows.now in
+    let S = shape_of args.structure.now in
     let b = pre.rows in
     let J = args.j in
     let f = pre.fresh in
-    let as0 = args.astarts.now in
-    let ar = args.arows.now in
-    let av = args.avals.now in (
+    let as0 = args.lower.now.starts.now in
+    let ar = args.lower.now.rows.now in
+    let av = args.lower.now.values.now in (
       omega (arith, loop-test.true),
-      scat.column_more S b J (le_refl _) args.place.now f.placed f.places as0 ar av pre.lower pre.pattern loop.c (omega (arith, loop-test.true, f.w_is)) _ _ _ loop.invariant.1 from-a-column.ensures,
+      scat.column_more S b J (le_refl _) args.place.now f.placed f.places as0 ar av (gather.as_lower pre.pattern.0 args.lower.now.valid) pre.pattern.1 loop.c (omega (arith, loop-test.true, f.w_is)) _ _ _ loop.invariant.1 from-a-column.ensures,
     )
 
 pub shape_of-own : goal.shape_of-own
@@ -95,11 +85,11 @@ returns c =
     let args = c.args in
     let pre = c.requires in
     let column-start = c.column_start in
-    let S = laid args.n args.first.now args.starts.now args.rows.now in
+    let S = shape_of args.structure.now in
     let J = args.j in
-    let as0 = args.astarts.now in
-    let ar = args.arows.now in
-    let av = args.avals.now in
+    let as0 = args.lower.now.starts.now in
+    let ar = args.lower.now.rows.now in
+    let av = args.lower.now.values.now in
     let f = pre.fresh in
-    let size = scat.size_code S J args.m args.w _ column-start.ensures f.m_is f.w_is in
+    let size = scat.size_code S J args.to.now.height args.to.now.width _ column-start.ensures f.m_is f.w_is in
     scat.columns_all S J as0 ar av _ _ _ loop.c _ size clear.ensures loop.invariant.1 (omega (arith, loop.invariant.0, f.w_is)) (omega (arith, loop-test.false, f.w_is))

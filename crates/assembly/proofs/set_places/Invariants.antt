@@ -6,6 +6,3 @@ use Rattle.assembly.proofs.set_places.Given as goal
 
 abbrev pub invariant-loop-p : goal.invariant-loop-p
 invariant-loop-p l = (l.p ≤ l.m) × Touched 0 l.initial.place l.place l.p (λ p. get_or l.rows (l.r0 + p) 0) (λ p. p)
-
-abbrev pub decreases-loop-p : goal.decreases-loop-p
-decreases-loop-p l = l.m - l.p

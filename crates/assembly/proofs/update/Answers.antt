@@ -16,15 +16,6 @@ update_column-requires c =
     let l = t.loop-q in
     takes.target _ _ _ _ _ _ _ _ _ _ _ _ _ t.requires l.q _ l.invariant.2 _ l.invariant.3.size l.invariant.0 t.loop-q-test.true
 
-pub overflow_add-q : goal.overflow_add-q
-overflow_add-q c =
-    let t = c in
-    let s = t in
-    omega (arith, t.loop-q-test.true, s.requires.in_k, s.requires.few_k)
-
-pub loop-q-smaller : goal.loop-q-smaller
-loop-q-smaller c = omega (arith, c.loop-q-test.true)
-
 pub loop-q-preserved : goal.loop-q-preserved
 loop-q-preserved c =
     let t = c in

@@ -6,7 +6,4 @@ use Rattle.assembly.specs.Update.{Updated}
 use Rattle.assembly.proofs.update.Given as goal
 
 abbrev pub invariant-loop-q : goal.invariant-loop-q
-invariant-loop-q l = (l.p1 ≤ l.q) × (l.q ≤ l.p2) × (length l.work ≡ length l.initial.work) × Updated l.place l.rows l.initial.values l.values l.off l.m l.kr l.km l.kw l.kv l.p1 l.q
-
-abbrev pub decreases-loop-q : goal.decreases-loop-q
-decreases-loop-q l = l.p2 - l.q
+invariant-loop-q l = (l.p1 ≤ l.q) × (l.q ≤ l.p2) × (length l.work ≡ length l.initial.work) × Updated l.place l.rows l.initial.values l.values l.to.offset l.to.height l.from.start l.from.height l.from.width l.from.offset l.p1 l.q

@@ -34,14 +34,14 @@ overflow_add-base c =
     let pre' = c.requires in
     omega (arith, column-start'.ensures, pre'.column)
 
-pub overflow_add-kv : goal.overflow_add-kv
-overflow_add-kv c =
+pub overflow_add-from : goal.overflow_add-from
+overflow_add-from c =
     let column-start' = c.column_start in
     let pre' = c.requires in
     omega (arith, column-start'.ensures, pre'.column, spots.before_base _ _ _ _ _ _ _ _ _ _ _ pre' _ column-start'.ensures refl)
 
-pub overflow_sub-km : goal.overflow_sub-km
-overflow_sub-km c =
+pub overflow_sub-from : goal.overflow_sub-from
+overflow_sub-from c =
     let pre' = c.requires in
     omega (arith, pre'.here)
 

@@ -22,7 +22,7 @@ pub subtract_rising-requires : goal.subtract_rising-requires
 subtract_rising-requires c =
     let b = c.before.before in
     let d = b in
-    let s = d in record { rising = spots.rising _ _ _ _ _ _ _ _ _ _ _ s.requires _ b.column_start.ensures _ (part.mid_length nan s.args.values.now s.args.off); n_in_bounds = omega (arith, d.sums.ensures.size, s.requires.room) }
+    let s = d in record { rising = spots.rising _ _ _ _ _ _ _ _ _ _ _ s.requires _ b.column_start.ensures _ (part.mid_length nan s.args.values.now s.args.to.now.offset); n_in_bounds = omega (arith, d.sums.ensures.size, s.requires.room) }
 
 pub returns : goal.returns
 returns c =

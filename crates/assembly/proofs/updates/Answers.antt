@@ -2,7 +2,7 @@ use mathlib.Core.Path.{refl, ◌∙◌}
 use Prim.Native.Nat.{◌-◌}
 use native.Mathlib.Omega.{arith}
 use native.Mathlib.Nat.{le_refl}
-use Rattle.laws.specs.Lent.{laid}
+use Rattle.views.specs.Shown.{shape_of}
 use Rattle.assembly.proofs.Gather as gather
 use Rattle.assembly.proofs.Earlies as early
 use Rattle.statement.specs.Shape.{first, size}
@@ -12,7 +12,7 @@ pub loop-u-init : goal.loop-u-init
 loop-u-init c =
     let args' = c.args in
     let pre' = c.requires in
-    let S = laid args'.n args'.first.now args'.starts.now args'.rows.now in
+    let S = shape_of args'.structure.now in
     let o = pre'.own in
     (omega arith, refl, early.start S pre'.rows args'.j (le_refl _) args'.place.now o.placed o.places _ _ pre'.listed.0 _)
 
@@ -22,17 +22,6 @@ one_update-requires c =
     let loop' = c.loop-u in
     let loop-test' = c.loop-u-test in record { rows = pre'.rows; listed = pre'.listed; offsets = pre'.offsets; own = gather.own_as _ _ _ _ _ _ _ _ _ _ loop'.invariant.2.size loop'.invariant.1 pre'.own; u_lt_count = loop-test'.true }
 
-pub overflow_add-u : goal.overflow_add-u
-overflow_add-u c =
-    let loop-test' = c.loop-u-test in
-    let pre' = c.requires in
-    omega (arith, loop-test'.true, pre'.listed.1)
-
-pub loop-u-smaller : goal.loop-u-smaller
-loop-u-smaller c =
-    let loop-test' = c.loop-u-test in
-    omega (arith, loop-test'.true)
-
 pub loop-u-preserved : goal.loop-u-preserved
 loop-u-preserved c =
     let args' = c.args in
@@ -40,7 +29,7 @@ loop-u-preserved c =
     let loop' = c.loop-u in
     let loop-test' = c.loop-u-test in
     let one-update' = c.one_update in
-    let S = laid args'.n args'.first.now args'.starts.now args'.rows.now in
+    let S = shape_of args'.structure.now in
     let o = pre'.own in (
       omega (arith, loop-test'.true),
       one-update'.auto.work ∙ loop'.invariant.1,
@@ -63,6 +52,6 @@ returns c =
     let pre' = c.requires in
     let loop' = c.loop-u in
     let loop-test' = c.loop-u-test in
-    let S = laid args'.n args'.first.now args'.starts.now args'.rows.now in
+    let S = shape_of args'.structure.now in
     let o = pre'.own in
     early.all S pre'.rows args'.j (le_refl _) args'.place.now o.placed o.places _ _ pre'.listed.0 _ _ loop'.u loop'.invariant.0 loop-test'.false loop'.invariant.2

@@ -2,14 +2,11 @@
 use mathlib.Core.Path.{◌≡◌}
 use Prim.Native.Nat.{◌-◌, ◌≤◌}
 use lib.ListN.{length}
-use Rattle.laws.specs.Lent.{laid}
+use Rattle.views.specs.Shown.{shape_of}
 use Rattle.assembly.specs.Ready.{in_words}
 use Rattle.assembly.proofs.Earlies as early
 use Rattle.statement.specs.Shape.{first}
 use Rattle.assembly.proofs.updates.Given as goal
 
 abbrev pub invariant-loop-u : goal.invariant-loop-u
-invariant-loop-u l = (l.u ≤ l.count) × (length l.work ≡ length l.initial.work) × early.Sofar (laid l.n l.first l.starts l.rows) l.j (in_words l.upd) l.count l.initial.values l.values l.u
-
-abbrev pub decreases-loop-u : goal.decreases-loop-u
-decreases-loop-u l = l.count - l.u
+invariant-loop-u l = (l.u ≤ l.count) × (length l.work ≡ length l.initial.work) × early.Sofar (shape_of l.structure) l.j (in_words l.upd) l.count l.initial.values l.values l.u

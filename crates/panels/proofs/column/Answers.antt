@@ -5,43 +5,21 @@ use lib.ListN.{length-set}
 use Rattle.panels.proofs.Columns as cols
 use Rattle.panels.proofs.column.Goals as goal
 
-pub panel_entry-d-requires : goal.panel_entry-d-requires
-panel_entry-d-requires c =
-    let pre' = c.requires in
-    let reduce' = c.reduce in
-    (record { inside = pre'.0; few = pre'.1; room = omega (arith, pre'.2, reduce'.ensures.size) }, omega arith, pre'.0)
+pub at-d-requires : goal.at-d-requires
+at-d-requires c = (record { inside = c.requires.0; few = c.requires.1; room = omega (arith, c.requires.2, c.reduce.ensures.size) }, omega arith, c.requires.0)
 
 pub divide-requires : goal.divide-requires
-divide-requires c =
-    let reduce' = c.reduce in
-    let column-start' = c.column_start-at in
-    simp length-set (omega (arith, reduce'.ensures.size, column-start'.ensures))
+divide-requires c = simp length-set (omega (arith, c.reduce.ensures.size, c.column_start-at.ensures))
 
-pub shape_of-own-then-good_pivot : goal.shape_of-own-then-good_pivot
-shape_of-own-then-good_pivot c =
-    let divide' = c.divide in
-    let reduce' = c.reduce in
-    divide'.ensures.size ∙ simp length-set reduce'.ensures.size
+pub shape_of-own : goal.shape_of-own
+shape_of-own c = c.divide.ensures.size ∙ simp length-set c.reduce.ensures.size
 
-pub returns-then-good_pivot : goal.returns-then-good_pivot
-returns-then-good_pivot c =
-    let args' = c.args in
-    let pre' = c.requires in
-    let reduce' = c.reduce in
-    let panel-entry' = c.panel_entry-d in
-    let good-pivot' = c.good_pivot in
-    let column-start' = c.column_start-at in
-    let if1' = c.if-good_pivot in
-    let root' = c.root-r in
-    let divide' = c.divide in
-    cols.column_yes _ args'.m args'.c args'.a _ _ _ pre'.0 pre'.2 reduce'.ensures panel-entry'.ensures good-pivot'.ensures _ _ _ column-start'.ensures if1'.true root'.ensures divide'.ensures
+pub returns-then-not-good_pivot-clause-column : goal.returns-then-not-good_pivot-clause-column
+returns-then-not-good_pivot-clause-column c =
+    let a = c.args in
+    cols.column_no _ a.m a.c a.a _ _ _ c.requires.0 c.requires.2 c.reduce.ensures c.at-d.ensures c.good_pivot.ensures c.if-not-good_pivot.true
 
-pub returns-else-good_pivot : goal.returns-else-good_pivot
-returns-else-good_pivot c =
-    let args' = c.args in
-    let pre' = c.requires in
-    let reduce' = c.reduce in
-    let panel-entry' = c.panel_entry-d in
-    let good-pivot' = c.good_pivot in
-    let if1' = c.if-good_pivot in
-    cols.column_no _ args'.m args'.c args'.a _ _ _ pre'.0 pre'.2 reduce'.ensures panel-entry'.ensures good-pivot'.ensures if1'.false
+pub returns-clause-column : goal.returns-clause-column
+returns-clause-column c =
+    let a = c.args in
+    cols.column_yes _ a.m a.c a.a _ _ _ c.requires.0 c.requires.2 c.reduce.ensures c.at-d.ensures c.good_pivot.ensures _ _ _ c.column_start-at.ensures c.if-not-good_pivot.false c.root-r.ensures c.divide.ensures

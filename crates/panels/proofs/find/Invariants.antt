@@ -6,6 +6,3 @@ use Rattle.panels.proofs.find.Given as goal
 
 abbrev pub invariant-loop-t : goal.invariant-loop-t
 invariant-loop-t l = (l.t ≤ l.t1) × (among l.rows l.vals l.t0 l.t1 l.i ≡ among l.rows l.vals l.t l.t1 l.i)
-
-abbrev pub decreases-loop-t : goal.decreases-loop-t
-decreases-loop-t l = l.t1 - l.t

@@ -8,6 +8,3 @@ use Rattle.products.proofs.add1.Given as goal
 
 abbrev pub invariant-loop-i : goal.invariant-loop-i
 invariant-loop-i l = (l.i ≤ l.n) × Touched nan l.initial.w l.w l.i (λ i. i) (λ i. plus l.v l.s0 i (get_or l.initial.w i nan))
-
-abbrev pub decreases-loop-i : goal.decreases-loop-i
-decreases-loop-i l = l.n - l.i

@@ -7,6 +7,3 @@ use Rattle.products.proofs.by_ones.Given as goal
 
 abbrev pub invariant-loop-k : goal.invariant-loop-k
 invariant-loop-k l = (l.k ≤ l.kw) × (l.src ≡ trapezoid l.m l.k + (l.q - l.k)) × rise.Summed l.initial.work l.v l.m l.q (l.m - l.q) l.work l.k
-
-abbrev pub decreases-loop-k : goal.decreases-loop-k
-decreases-loop-k l = l.kw - l.k

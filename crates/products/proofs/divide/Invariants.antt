@@ -7,6 +7,3 @@ use Rattle.products.proofs.divide.Given as goal
 
 abbrev pub invariant-loop-i : goal.invariant-loop-i
 invariant-loop-i l = (l.i ≤ l.n) × Touched nan l.initial.own l.own l.i (λ i. l.at + i) (λ i. div binary64 (get_or l.initial.own (l.at + i) nan) l.r)
-
-abbrev pub decreases-loop-i : goal.decreases-loop-i
-decreases-loop-i l = l.n - l.i

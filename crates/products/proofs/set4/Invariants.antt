@@ -8,6 +8,3 @@ use Rattle.products.proofs.set4.Given as goal
 
 abbrev pub invariant-loop-i : goal.invariant-loop-i
 invariant-loop-i l = (l.i ≤ l.n) × Touched nan l.initial.w l.w l.i (λ i. i) (λ i. plus4 l.v l.s0 l.s1 l.s2 l.s3 i +0)
-
-abbrev pub decreases-loop-i : goal.decreases-loop-i
-decreases-loop-i l = l.n - l.i

@@ -8,6 +8,3 @@ use Rattle.products.proofs.sub1.Given as goal
 
 abbrev pub invariant-loop-i : goal.invariant-loop-i
 invariant-loop-i l = (l.i ≤ l.n) × Touched nan l.initial.own l.own l.i (λ i. l.dst + i) (λ i. less l.initial.own l.src i (get_or l.initial.own (l.dst + i) nan))
-
-abbrev pub decreases-loop-i : goal.decreases-loop-i
-decreases-loop-i l = l.n - l.i

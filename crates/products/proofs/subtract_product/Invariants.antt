@@ -9,6 +9,3 @@ use Rattle.products.proofs.subtract_product.Given as goal
 
 abbrev pub invariant-loop-i : goal.invariant-loop-i
 invariant-loop-i l = (l.i ≤ l.n) × Touched nan l.initial.own l.own l.i (λ i. l.dst + i) (λ i. sub binary64 (get_or l.initial.own (l.dst + i) nan) (plus l.initial.own l.src i +0))
-
-abbrev pub decreases-loop-i : goal.decreases-loop-i
-decreases-loop-i l = l.n - l.i

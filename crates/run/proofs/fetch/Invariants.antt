@@ -5,6 +5,3 @@ use Rattle.run.proofs.fetch.Given as goal
 
 abbrev pub invariant-loop-i : goal.invariant-loop-i
 invariant-loop-i l = (l.i ≤ l.hi) × ((l.lo ≤ l.i) × Brought l.lo (l.i - l.lo) l.n l.us l.initial.words l.words)
-
-abbrev pub decreases-loop-i : goal.decreases-loop-i
-decreases-loop-i l = l.hi - l.i

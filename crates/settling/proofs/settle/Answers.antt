@@ -9,13 +9,13 @@ use Rattle.settling.proofs.settle.Goals as goal
 pub run-least-requires : goal.run-least-requires
 run-least-requires c = run_asked c.requires c.supernodes-ns.ensures c.lay.ensures c.lay.auto.words c.steps-t.ensures c.entries-total.ensures
 
-pub finish-made-requires : goal.finish-made-requires
-finish-made-requires c =
+pub finish-made-requires-clause-ended : goal.finish-made-requires-clause-ended
+finish-made-requires-clause-ended c =
     let a = c.args in
     let M : Matrix = matrix a.n a.input_starts.now a.input_rows.now a.input_values.now in
     ended_at M a.cap a.order a.«list».now a.stop
     (lent_same refl refl refl refl refl refl (sym (c.run-least.auto.words ∙ c.lay.auto.words)) (sym c.run-least.auto.floats) refl refl (sym c.run-least.auto.values))
-    (ended c.requires c.supernodes-ns.ensures c.lay.ensures c.lay.auto.words c.steps-t.ensures c.entries-total.ensures c.run-least.ensures c.run-least.auto.values)
+    (ended c.requires c.supernodes-ns.ensures c.lay.ensures c.lay.auto.words c.steps-t.ensures c.entries-total.ensures c.run-least.ensures.left c.run-least.auto.values)
 
 pub returns : goal.returns
 returns c =

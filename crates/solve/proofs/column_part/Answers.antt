@@ -38,24 +38,24 @@ offset_bounds-values-off c =
     let offset' = c.offset-off in
     omega (arith, part_in _ c.args.walked.now.valid args'.q _ owner'.ensures, pre'.firsts_in_bounds, offset'.ensures)
 
-pub slice_bounds-panel_column-count : goal.slice_bounds-panel_column-count
-slice_bounds-panel_column-count c =
+pub slice_bounds-column-count : goal.slice_bounds-column-count
+slice_bounds-column-count c =
     let pre' = c.requires in
     let args' = c.args in
     let owner' = c.owner-k in
     let offset' = c.offset-off in
     omega (arith, part_in _ c.args.walked.now.valid args'.q _ owner'.ensures, pre'.firsts_in_bounds, offset'.ensures)
 
-pub slice_bounds-panel_column-start : goal.slice_bounds-panel_column-start
-slice_bounds-panel_column-start c =
+pub slice_bounds-column-start : goal.slice_bounds-column-start
+slice_bounds-column-start c =
     let pre' = c.requires in
     let args' = c.args in
     let owner' = c.owner-k in
     let offset' = c.offset-off in
     omega (arith, part_in _ c.args.walked.now.valid args'.q _ owner'.ensures, pre'.firsts_in_bounds, offset'.ensures)
 
-pub panel_column-requires : goal.panel_column-requires
-panel_column-requires c =
+pub column-requires : goal.column-requires
+column-requires c =
     let pre' = c.requires in
     let args' = c.args in
     let owner' = c.owner-k in
@@ -64,7 +64,7 @@ panel_column-requires c =
 
 pub returns : goal.returns
 returns c =
-    let panel-column' = c.panel_column in
+    let panel-column' = c.column in
     let pre' = c.requires in
     let args' = c.args in
     let owner' = c.owner-k in

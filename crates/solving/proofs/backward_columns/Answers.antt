@@ -28,8 +28,8 @@ slice_bounds-backward_column-end c =
     let pre' = c.requires in
     omega (arith, pre'.wide)
 
-pub panel_column-requires : goal.panel_column-requires
-panel_column-requires c =
+pub column-requires : goal.column-requires
+column-requires c =
     let pre' = c.requires in
     let loop' = c.loop-c in
     column_within (pre') (loop'.c - 1) (omega arith)
@@ -43,7 +43,7 @@ pub backward_column-requires : goal.backward_column-requires
 backward_column-requires c =
     let loop' = c.loop-c in
     let pre' = c.requires in
-    let panel-column' = c.panel_column in
+    let panel-column' = c.column in
     rw loop'.invariant.1 (one_column (pre') (loop'.c - 1) (omega arith) _ panel-column'.ensures)
 
 pub loop-c-preserved : goal.loop-c-preserved
@@ -52,7 +52,7 @@ loop-c-preserved c =
     let backward-column' = c.backward_column in
     let args' = c.args in
     let pre' = c.requires in
-    let panel-column' = c.panel_column in
+    let panel-column' = c.column in
     let d = loop'.c - 1 in
     let g : loop'.c ≡ d + 1 = omega arith in
     (omega arith, backward-column'.auto.x ∙ loop'.invariant.1, λ S K v s. loop'.invariant.2 S K v s ∙ backward_less S v args'.f loop'.x _ loop'.c d g (backward-column'.ensures S v (column_rows (pre') d (omega arith) _ panel-column'.ensures S K v s) (column_values (pre') d (omega arith) _ panel-column'.ensures S K v s)))

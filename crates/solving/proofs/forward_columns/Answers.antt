@@ -33,8 +33,8 @@ slice_bounds-forward_column-end c =
     let pre' = c.requires in
     omega (arith, pre'.wide)
 
-pub panel_column-requires : goal.panel_column-requires
-panel_column-requires c =
+pub column-requires : goal.column-requires
+column-requires c =
     let pre' = c.requires in
     let loop' = c.loop-c in
     column_within pre' loop'.c c.loop-c-test.true
@@ -49,7 +49,7 @@ forward_column-requires c =
     let loop' = c.loop-c in
     let forward-fours' = c.forward_fours-done in
     let pre' = c.requires in
-    let panel-column' = c.panel_column in
+    let panel-column' = c.column in
     rw (loop'.invariant.1 ∙ forward-fours'.auto.x) (one_column pre' loop'.c c.loop-c-test.true _ panel-column'.ensures)
 
 pub loop-c-preserved : goal.loop-c-preserved
@@ -58,7 +58,7 @@ loop-c-preserved c =
     let loop' = c.loop-c in
     let args' = c.args in
     let pre' = c.requires in
-    let panel-column' = c.panel_column in
+    let panel-column' = c.column in
     (omega (arith), forward-column'.auto.x ∙ loop'.invariant.1, λ S K v z s h. forward_more S v args'.f z loop'.x _ loop'.c (loop'.invariant.2 S K v z s h) (forward-column'.ensures S v (column_rows pre' loop'.c c.loop-c-test.true _ panel-column'.ensures S K v s) (column_values pre' loop'.c c.loop-c-test.true _ panel-column'.ensures S K v s)))
 
 pub shape_of-x : goal.shape_of-x

@@ -23,8 +23,8 @@ overflow_add-c c =
     let pre' = c.requires in
     omega (arith, pre'.wide, pre'.few)
 
-pub panel_column-requires : goal.panel_column-requires
-panel_column-requires c =
+pub column-requires : goal.column-requires
+column-requires c =
     let pre' = c.requires in
     let loop' = c.loop-c in
     column_within pre' loop'.c (omega arith)
@@ -34,8 +34,8 @@ overflow_add-c-in-loop-c c =
     let pre' = c.requires in
     omega (arith, pre'.wide, pre'.few)
 
-pub panel_column-requires-in-loop-c : goal.panel_column-requires-in-loop-c
-panel_column-requires-in-loop-c c =
+pub column-requires-in-loop-c : goal.column-requires-in-loop-c
+column-requires-in-loop-c c =
     let pre' = c.requires in
     let loop' = c.loop-c in
     column_within pre' (loop'.c + 1) (omega arith)
@@ -45,8 +45,8 @@ overflow_add-c-in-loop-c-2 c =
     let pre' = c.requires in
     omega (arith, pre'.wide, pre'.few)
 
-pub panel_column-requires-in-loop-c-2 : goal.panel_column-requires-in-loop-c-2
-panel_column-requires-in-loop-c-2 c =
+pub column-requires-in-loop-c-2 : goal.column-requires-in-loop-c-2
+column-requires-in-loop-c-2 c =
     let pre' = c.requires in
     let loop' = c.loop-c in
     column_within pre' (loop'.c + 2) (omega arith)
@@ -56,8 +56,8 @@ overflow_add-c-in-loop-c-3 c =
     let pre' = c.requires in
     omega (arith, pre'.wide, pre'.few)
 
-pub panel_column-requires-in-loop-c-3 : goal.panel_column-requires-in-loop-c-3
-panel_column-requires-in-loop-c-3 c =
+pub column-requires-in-loop-c-3 : goal.column-requires-in-loop-c-3
+column-requires-in-loop-c-3 c =
     let pre' = c.requires in
     let loop' = c.loop-c in
     column_within pre' (loop'.c + 3) (omega arith)
@@ -73,10 +73,10 @@ forward4-requires c =
     let pre' = c.requires in
     let is-run' = c.is_run in
     let if1' = c.if-not-is_run in
-    let panel-column' = c.panel_column in
-    let panel-column2' = c.panel_column-in-loop-c in
-    let panel-column3' = c.panel_column-in-loop-c-2 in
-    let panel-column4' = c.panel_column-in-loop-c-3 in
+    let panel-column' = c.column in
+    let panel-column2' = c.column-in-loop-c in
+    let panel-column3' = c.column-in-loop-c-2 in
+    let panel-column4' = c.column-in-loop-c-3 in
     rw loop'.invariant.1 (four_columns pre' (yes is-run'.ensures if1'.false) loop'.c (omega arith) _ _ _ _ panel-column'.ensures panel-column2'.ensures panel-column3'.ensures panel-column4'.ensures)
 
 pub loop-c-preserved : goal.loop-c-preserved
@@ -87,10 +87,10 @@ loop-c-preserved c =
     let pre' = c.requires in
     let is-run' = c.is_run in
     let if1' = c.if-not-is_run in
-    let panel-column' = c.panel_column in
-    let panel-column2' = c.panel_column-in-loop-c in
-    let panel-column3' = c.panel_column-in-loop-c-2 in
-    let panel-column4' = c.panel_column-in-loop-c-3 in
+    let panel-column' = c.column in
+    let panel-column2' = c.column-in-loop-c in
+    let panel-column3' = c.column-in-loop-c-2 in
+    let panel-column4' = c.column-in-loop-c-3 in
     (omega (arith, loop-test'.true), forward4'.auto.x ∙ loop'.invariant.1, λ S K v z s h. four_more pre' (yes is-run'.ensures if1'.false) loop'.c loop-test'.true _ _ _ _ panel-column'.ensures panel-column2'.ensures panel-column3'.ensures panel-column4'.ensures S K v s z loop'.x _ (loop'.invariant.2 S K v z s h) forward4'.ensures)
 
 pub shape_of-x : goal.shape_of-x

@@ -8,6 +8,3 @@ use Rattle.spread.proofs.subtract_through.Given as goal
 
 abbrev pub invariant-loop-i : goal.invariant-loop-i
 invariant-loop-i l = (l.i ≤ l.n) × Touched nan l.initial.own l.own l.i (through l.place l.rows l.base l.at) (λ i. sub binary64 (get_or l.initial.own (through l.place l.rows l.base l.at i) nan) (get_or l.work i nan))
-
-abbrev pub decreases-loop-i : goal.decreases-loop-i
-decreases-loop-i l = l.n - l.i
