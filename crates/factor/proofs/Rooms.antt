@@ -1,5 +1,5 @@
--- The same room, however the lengths were come by. Assumes nothing.
-use mathlib.Core.Path.{◌≡◌, ap, ◌∙◌}
+-- The promise of factor, and the same room however the lengths were come by. Assumes nothing.
+use mathlib.Core.Path.{◌≡◌}
 use mathlib.Core.List.{List}
 use Prim.Native.Nat.{ℕ}
 use lib.Ieee.{Float}
@@ -10,18 +10,17 @@ use Rattle.statement.specs.declared.Outcome.{Outcome}
 use Rattle.statement.specs.declared.Room.{Room}
 use Rattle.statement.specs.declared.Stop.{Stop}
 use Rattle.statement.specs.declared.Update.{Update}
-use Rattle.survey.specs.declared.Findings.{Findings}
-use Rattle.begin.specs.Begun.{Begun}
+use Rattle.begin.specs.Begun.{lent_all}
 use Rattle.finish.specs.Filled.{FactorSettles}
 
-module _ (M : Matrix) (cap : ℕ) (order : Order) (list : List ℕ) (e : Stop) {r r' : Room} (q : r ≡ r') where
-  pub begun_at : {x : Findings} {p f s g t w : List ℕ} {y : List Float} {n : List ℕ} {v : List Float} → Begun M cap order list e r x p f s g t w y n v → Begun M cap order list e r' x p f s g t w y n v
-  begun_at h = rw q at h
+pub lent_same : {p f s g t o w x n u v p' f' s' g' t' o' w' x' n' u' v' : ℕ} → p ≡ p' → f ≡ f' → s ≡ s' → g ≡ g' → t ≡ t' → o ≡ o' → w ≡ w' → x ≡ x' → n ≡ n' → u ≡ u' → v ≡ v' → lent_all p f s g t o w x n u v ≡ lent_all p' f' s' g' t' o' w' x' n' u' v'
+lent_same a b c d e f g h j k m = λ i. lent_all (a i) (b i) (c i) (d i) (e i) (f i) (g i) (h i) (j i) (k i) (m i)
 
+module _ (M : Matrix) (cap : ℕ) (order : Order) (list : List ℕ) (e : Stop) (r : Room) where
   -- the promise, from what is settled part by part
   pub factors : {x : Outcome} {p f s g t o w : List ℕ} {y : List Float} {n : List ℕ} {u : List Update} {v : List Float} → FactorSettles (factor M cap order list e r) x p f s g t o w y n u v
-      → Factors M cap order list e r' (record { returned = x; areas = record { permutation = p; firsts = f; starts = s; groups = g; tasks = t; top = o; words = w; floats = y; rows = n; updates = u; values = v } })
-  factors h = (λ i. record {
+      → Factors M cap order list e r (record { returned = x; areas = record { permutation = p; firsts = f; starts = s; groups = g; tasks = t; top = o; words = w; floats = y; rows = n; updates = u; values = v } })
+  factors h = λ i. record {
     returned = h.plain.structure.out i;
     areas = record {
       permutation = h.plain.structure.one i;
@@ -36,4 +35,4 @@ module _ (M : Matrix) (cap : ℕ) (order : Order) (list : List ℕ) (e : Stop) {
       updates = h.ten_holds i;
       values = h.plain.eleven i;
     };
-  }) ∙ ap (factor M cap order list e) q
+  }

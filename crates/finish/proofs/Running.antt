@@ -15,7 +15,6 @@ use Rattle.statement.specs.Run.{blank, start, run}
 use Rattle.statement.specs.Areas.{held, no_update}
 use Rattle.statement.specs.Calls.{analysis, entry_a, order_of, stop_of, state_after}
 use Rattle.statement.specs.Demands.{Names}
-use Rattle.statement.specs.declared.Answer.TheVariants.{Accepted}
 use Rattle.statement.specs.declared.Factored.{Factored}
 use Rattle.statement.specs.declared.Order.{Order}
 use Rattle.statement.specs.declared.Room.{Room}
@@ -30,7 +29,7 @@ use Rattle.laws.proofs.Ranks.{list_length, list_at}
 use Rattle.areas.proofs.Lists.{is_list}
 use Rattle.areas.proofs.Held.{held_over}
 use Rattle.updates.specs.Layout.{owners_at, parents_at, names_at, starts_at, rows_at}
-use Rattle.updates.specs.Laying.{ToLay, LaidOut}
+use Rattle.updates.specs.Laying.{LaidOut}
 use Rattle.step.specs.Laid as step
 use Rattle.turn.specs.Turn.{Due}
 use Rattle.turn.specs.Run.{fresh, Ran, RunReady, RunLeft}
@@ -40,11 +39,10 @@ use Rattle.order.proofs.Shaped as parents
 use Rattle.ready.specs.Known.{Structured, Laid}
 use Rattle.survey.specs.declared.Findings.{Findings}
 use Rattle.survey.proofs.Reading.{fewer}
-use Rattle.survey.proofs.Settling.{accepted_or}
-use Rattle.begin.specs.Begun.{Prepared, Begun, Steps}
+use Rattle.begin.specs.Begun.{Prepared}
 use Rattle.begin.proofs.Handing.{structured, enough, entries_fit}
 use Rattle.begin.proofs.Ordering.{ordered_by}
-use Rattle.finish.specs.Filled.{ran, Ended}
+use Rattle.finish.specs.Filled.{ran, Over}
 
 -- ---- lists
 
@@ -65,11 +63,6 @@ same_before : (m : ℕ) (w w' : List ℕ) → take m w' ≡ take m w → (i : �
 same_before m w w' e i h = sym (get_or-take m w' i 0 h) ∙ ap (λ z. get_or z i 0) e ∙ get_or-take m w i 0 h
 
 module _ {M : Matrix} {cap : ℕ} {o : Order} {l : List ℕ} {e : Stop} {r : Room} {x : Findings} {permutation firsts starts groups tasks words : List ℕ} {floats : List Float} {nine : List ℕ} {values : List Float} where
-  -- ---- laying the updates
-
-  pub lay_asked : Begun M cap o l e r x permutation firsts starts groups tasks words floats nine values → (ns long : ℕ) → ns ≡ x.supernodes → long ≡ r.updates → 0 < ns → ToLay M.n ns M.starts M.rows firsts starts nine words long
-  lay_asked b ns long en el h = accepted_or x.answer (λ k. rw (en, el) (b.go k).laid.laying) (λ k. absurd (omega (arith, en, b.idle k)))
-
   module _ (p : Prepared M cap o l e r x permutation firsts starts groups tasks words floats nine values) where
     abbrev S : Shape
     S = shape_for M
@@ -199,30 +192,6 @@ module _ {M : Matrix} {cap : ℕ} {o : Order} {l : List ℕ} {e : Stop} {r : Roo
               held_over r.values +0 (ran M o l e).values x.entries (sym (length-take-le x.entries values' (omega (arith, total))) ∙ ap length part) p.zero
               (sym (take-append-drop x.entries values') ∙ ap (λ z. take x.entries values' ++ z) y.rest ∙ ap (λ z. z ++ drop x.entries values) part)
 
-  -- ---- for factor
-
-  module _ (b : Begun M cap o l e r x permutation firsts starts groups tasks words floats nine values) {ns : ℕ} (en : ns ≡ x.supernodes) {words' : List ℕ} {us us' : List Update} (d : LaidOut M.n ns M.starts M.rows words words' us us') (same : length words' ≡ length words)
-      {t : ℕ} (steps : Steps x e t) {total : ℕ} (ee : total ≡ x.entries) where
-    d' : LaidOut M.n x.supernodes M.starts M.rows words words' us us'
-    d' = rw en at d
-
-    stop_is : x.answer ≡ Accepted → t ≡ stop_of (shape_for M) e
-    stop_is k = steps.all k (shape_for M) (sym (b.go k).laid.many_supernodes)
-
-    pub run_asked : 0 < t → RunReady t ns M.n (length M.rows) total firsts starts nine groups us' words' floats values
-    run_asked h = accepted_or x.answer (λ k. rw (en, ee) (run_ready (b.go k) d' same t (stop_is k) h)) (λ k. absurd (omega (arith, steps.none k)))
-
-    pub ended : {values' : List Float} {least : Factored} → RunLeft t M.n (length M.rows) total firsts starts nine words' floats values values' least → length values' ≡ length values
-        → Ended M cap o l e r x least permutation firsts starts groups tasks nine values'
-    ended y h = record {
-      ans = b.ans;
-      go = λ k.
-          let y' : RunLeft t M.n (length M.rows) x.entries firsts starts nine words' floats values _ _ = rw ee at y in
-          record {
-            words = words;
-            laid = (b.go k).laid;
-            legal = (b.go k).ordered.legal;
-            filled = filled (b.go k) d' same t (stop_is k) y' h;
-            low = low (b.go k) d' same t (stop_is k) y';
-          };
-    }
+          -- all of it
+          pub over : length values' ≡ length values → Over M cap o l e r x least permutation firsts starts groups tasks nine values'
+          over h = record { words = words; laid = p.laid; legal = p.ordered.legal; filled = filled h; low = low }

@@ -1,22 +1,21 @@
 -- The run over, number 9, and what factor leaves. Definitions only.
-use Rattle.std.specs.Prelude.{◌≡◌, ◌≢◌, List, ℕ, ⊤, Result, Err, ltb, Float}
+use Rattle.std.specs.Prelude.{◌≡◌, List, ℕ, ltb, Float}
 use Rattle.std.proofs.Math.Option.{Option, none}
 use Rattle.statement.specs.Input.{Matrix, +0}
 use Rattle.statement.specs.Postorder.{to_original}
 use Rattle.statement.specs.Run.{State}
-use Rattle.statement.specs.Answers.{test, or_else}
-use Rattle.laws.specs.Answered.{answered, passed}
+use Rattle.statement.specs.Answers.{test}
 use Rattle.statement.specs.Areas.{held}
-use Rattle.statement.specs.Calls.{Settled, analysis, stop_of, state_after}
+use Rattle.statement.specs.Calls.{Settled, analysis, stop_of, state_after, factor_fault}
 use Rattle.statement.specs.declared.Answer.{Answer}
-use Rattle.statement.specs.declared.Answer.TheVariants.{Accepted, WrongPivot}
+use Rattle.statement.specs.declared.Answer.TheVariants.{WrongPivot}
 use Rattle.statement.specs.declared.Factored.{Factored}
 use Rattle.statement.specs.declared.Order.{Order}
 use Rattle.statement.specs.declared.Outcome.{Outcome}
 use Rattle.statement.specs.declared.Room.{Room}
 use Rattle.statement.specs.declared.Stop.{Stop}
 use Rattle.statement.specs.declared.Update.{Update}
-use Rattle.survey.specs.Laid.{structure_fault, Laid}
+use Rattle.survey.specs.Laid.{Laid}
 use Rattle.survey.specs.Settles.{SettlesPlain}
 use Rattle.survey.specs.declared.Findings.{Findings}
 use Rattle.begin.specs.Ordered.{order_test}
@@ -29,6 +28,10 @@ ran M o l e = state_after M (analysis M) o l (stop_of (analysis M).shape e)
 unfoldable pub pivot_test : Matrix → Order → List ℕ → Stop → Option Answer
 pivot_test M o l e = test (ltb (ran M o l e).least.0 M.n) (WrongPivot (to_original (analysis M).permutation (ran M o l e).least)) none
 
+-- all of factor's tests
+abbrev pub fault_of : Matrix → ℕ → Order → List ℕ → Stop → Room → Option Answer
+fault_of M cap o l e r = factor_fault M cap o l (stop_of (analysis M).shape e) r (analysis M) (ran M o l e)
+
 -- the structure, a legal order, and what its run leaves; the words as they were before the updates were laid
 pub record Over (M : Matrix) (cap : ℕ) (o : Order) (l : List ℕ) (e : Stop) (r : Room) (x : Findings) (least : Factored) (permutation firsts starts groups tasks nine : List ℕ) (values : List Float) : Type 0 where
   pub words : List ℕ
@@ -36,16 +39,6 @@ pub record Over (M : Matrix) (cap : ℕ) (o : Order) (l : List ℕ) (e : Stop) (
   pub legal : order_test M o l e ≡ none
   pub filled : values ≡ held r.values +0 (ran M o l e).values
   pub low : least ≡ (ran M o l e).least
-
--- by the answer before the run
-pub record Ended (M : Matrix) (cap : ℕ) (o : Order) (l : List ℕ) (e : Stop) (r : Room) (x : Findings) (least : Factored) (permutation firsts starts groups tasks nine : List ℕ) (values : List Float) : Type 0 where
-  pub ans : x.answer ≡ answered (or_else (structure_fault M cap r) (order_test M o l e))
-  pub go : x.answer ≡ Accepted → Over M cap o l e r x least permutation firsts starts groups tasks nine values
-
--- what is refused after it: the answer before, or what the test of the pivots refuses
-pub data Verdict (x : Findings) (least : Factored) (n : ℕ) (permutation : List ℕ) (r : Result ⊤ Answer) : Type 0 where
-  before : x.answer ≢ Accepted → r ≡ Err x.answer → Verdict x least n permutation r
-  after : x.answer ≡ Accepted → r ≡ passed (test (ltb least.0 n) (WrongPivot (to_original permutation least)) none) → Verdict x least n permutation r
 
 -- what factor leaves in all areas but the updates
 pub record FactorSettlesPlain (said : Settled) (x : Outcome) (permutation firsts starts groups tasks top words : List ℕ) (floats : List Float) (nine : List ℕ) (values : List Float) : Type 0 where

@@ -1,97 +1,68 @@
-// From where the run can start to what factor leaves: the updates laid, the run, number 9, and the last clearing. It hands the
-// areas on: what is to be decided is decided in the functions that it calls, and counts of 0 do nothing.
+// From where the run can start to what factor leaves where it passes: the updates laid, the run, number 9, and the end.
 #![tactic(auto)]
 
-ghost use Rattle.std.specs.Prelude.{length};
-ghost use Rattle.statement.specs.Input.{matrix};
+ghost use Rattle.std.specs.Prelude.{◌≡◌, length, IfOk, IfErr};
+ghost use Rattle.std.proofs.Math.Option.{some};
 ghost use Rattle.statement.specs.Calls.{factor};
-ghost use Rattle.begin.specs.Begun.{lent_all, Begun};
-ghost use Rattle.finish.specs.Filled.{FactorSettles};
+ghost use Rattle.views.specs.Shown.{matrix_of};
+ghost use Rattle.begin.specs.Begun.{lent_all, Prepared};
+ghost use Rattle.finish.specs.Filled.{fault_of, FactorSettles};
 
-use begin::{entries, steps};
+use answers::pivot_answer;
 use finish::finish;
 use listing::lay;
+use order::stop_at;
 use run::run;
-use statement::{Order, Outcome, Stop, Update};
-use survey::{Findings, stale, supernodes};
-use update::clear;
-use views::Structure;
+use statement::{Answer, Order, Record, Stop, Update};
+use survey::Findings;
+use views::{Matrix, Structure};
 
-// Where x is refused nothing is laid or run, and every area is cleared.
+// cap, the order and the list only name the call. Where it is refused, what it leaves in the areas is not said.
 pub fn settle(
-    x: Findings,
-    n: usize,
-    input_starts: &[usize],
-    input_rows: &[usize],
-    input_values: &[f64],
+    found: Findings,
+    matrix: &Matrix<'_>,
     cap: usize,
     order: Order,
     list: &[usize],
     stop: Stop,
-    permutation: &mut [usize],
-    firsts: &mut [usize],
-    starts: &mut [usize],
-    groups: &mut [usize],
+    permutation: &[usize],
+    firsts: &[usize],
+    starts: &[usize],
+    groups: &[usize],
     tasks: &mut [usize],
     top: &mut [usize],
     words: &mut [usize],
     floats: &mut [f64],
-    rows: &mut [usize],
+    rows: &[usize],
     updates: &mut [Update],
     values: &mut [f64],
-) -> Outcome
-    requires { Begun (matrix n input_starts.now input_rows.now input_values.now) cap order list.now stop (lent_all (length permutation.old) (length firsts.old) (length starts.old) (length groups.old) (length tasks.old) (length top.old) (length words.old) (length floats.old) (length rows.old) (length updates.old) (length values.old)) x permutation.old firsts.old starts.old groups.old tasks.old words.old floats.old rows.old values.old }
-    ensures { FactorSettles (factor (matrix n input_starts.now input_rows.now input_values.now) cap order list.now stop (lent_all (length permutation.old) (length firsts.old) (length starts.old) (length groups.old) (length tasks.old) (length top.old) (length words.old) (length floats.old) (length rows.old) (length updates.old) (length values.old))) result permutation.new firsts.new starts.new groups.new tasks.new top.new words.new floats.new rows.new updates.new values.new }
+) -> Result<Record, Answer>
+    requires prepared { Prepared (matrix_of matrix.now) cap order list.now stop (lent_all (length permutation.now) (length firsts.now) (length starts.now) (length groups.now) (length tasks.old) (length top.old) (length words.old) (length floats.old) (length rows.now) (length updates.old) (length values.old)) found permutation.now firsts.now starts.now groups.now tasks.old words.old floats.old rows.now values.old }
+    ensures settled { IfOk result (λ x. FactorSettles (factor (matrix_of matrix.now) cap order list.now stop (lent_all (length permutation.now) (length firsts.now) (length starts.now) (length groups.now) (length tasks.old) (length top.old) (length words.old) (length floats.old) (length rows.now) (length updates.old) (length values.old))) (record { answer = Answer.Accepted; «record» = x }) permutation.now firsts.now starts.now groups.now tasks.new top.new words.new floats.new rows.now updates.new values.new) }
+    ensures refused { IfErr result (λ a. fault_of (matrix_of matrix.now) cap order list.now stop (lent_all (length permutation.now) (length firsts.now) (length starts.now) (length groups.now) (length tasks.old) (length top.old) (length words.old) (length floats.old) (length rows.now) (length updates.old) (length values.old)) ≡ some a) }
 {
-    let long = updates.len();
-    let ns = supernodes(x);
-    lay(
-        ns,
-        n,
-        input_starts,
-        input_rows,
-        firsts,
-        starts,
-        rows,
-        words,
-        updates,
-    );
-    let t = steps(x, stop);
-    let total = entries(x);
-    let a = input_rows.len();
+    let n = matrix.n;
     let structure = Structure {
         n,
         firsts,
         starts,
         rows,
     };
+    lay(matrix, found.supernodes, &structure, words, updates);
     let least = run(
-        t, ns, a, total, &structure, groups, updates, words, floats, values,
-    );
-    let made = finish(
-        x,
-        least,
-        n,
-        input_starts,
-        input_rows,
-        input_values,
-        cap,
-        order,
-        list,
-        stop,
-        long,
-        permutation,
-        firsts,
-        starts,
+        stop_at(found.supernodes, stop),
+        found.supernodes,
+        matrix.rows.len(),
+        found.entries,
+        &structure,
         groups,
-        tasks,
-        top,
+        updates,
         words,
         floats,
-        rows,
         values,
     );
-    let old = stale(made, long);
-    clear(updates, old);
-    made
+    pivot_answer(least, permutation)?;
+    Ok(finish(
+        found, n, stop, firsts, starts, tasks, top, words, floats,
+    ))
 }

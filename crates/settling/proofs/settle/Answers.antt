@@ -1,27 +1,27 @@
--- `settling::settle` meets its contract: laid, run and finished, and what is stale cleared. Assumes nothing.
-use Rattle.std.proofs.Common.{refl, sym, ap, ◌∙◌}
-use Rattle.statement.specs.Input.{Matrix, matrix}
-use Rattle.survey.specs.Settles.{stale_of}
-use Rattle.finish.proofs.Running.{run_asked, ended}
-use Rattle.finish.proofs.Settling.{settled_all, lent_same, ended_at, plain_at}
+-- `settling::settle` meets its contract: call by call. Assumes nothing.
+use Rattle.std.proofs.Common.{refl, sym, ap, ◌∙◌, length}
+use native.Mathlib.Omega.{arith}
+use Rattle.laws.specs.Numbered.{shape_for}
+use Rattle.laws.proofs.Passed.{exit_is}
+use Rattle.views.specs.Shown.{matrix_of}
+use Rattle.answers.specs.Least.{least_of}
+use Rattle.begin.specs.Begun.{lent_all}
+use Rattle.survey.proofs.Asking.{split_ready, split_given}
+use Rattle.finish.proofs.Running.{run_ready, over}
+use Rattle.finish.proofs.Outcomes.{columns_there, refused_pivot, passed_pivot, settles_accepted, ten_accepted}
 use Rattle.settling.proofs.settle.Goals as goal
 
+pub lay-requires : goal.lay-requires
+lay-requires c = λ _. c.requires.prepared.laid.laying
+
 pub run-least-requires : goal.run-least-requires
-run-least-requires c = run_asked c.requires c.supernodes-ns.ensures c.lay.ensures c.lay.auto.words c.steps-t.ensures c.entries-total.ensures
+run-least-requires c = run_ready c.requires.prepared c.lay.ensures c.lay.auto.words _ (c.stop_at.ensures _ (sym c.requires.prepared.laid.many_supernodes))
 
-pub finish-made-requires-clause-ended : goal.finish-made-requires-clause-ended
-finish-made-requires-clause-ended c =
-    let a = c.args in
-    let M : Matrix = matrix a.n a.input_starts.now a.input_rows.now a.input_values.now in
-    ended_at M a.cap a.order a.«list».now a.stop
-    (lent_same refl refl refl refl refl refl (sym (c.run-least.auto.words ∙ c.lay.auto.words)) (sym c.run-least.auto.floats) refl refl (sym c.run-least.auto.values))
-    (ended c.requires c.supernodes-ns.ensures c.lay.ensures c.lay.auto.words c.steps-t.ensures c.entries-total.ensures c.run-least.ensures.left c.run-least.auto.values)
+pub pivot_answer-requires : goal.pivot_answer-requires
+pivot_answer-requires c = ?
 
-pub returns : goal.returns
-returns c =
-    let a = c.args in
-    let M : Matrix = matrix a.n a.input_starts.now a.input_rows.now a.input_values.now in
-    settled_all c.requires c.supernodes-ns.ensures c.lay.ensures c.lay.auto.us refl
-    (plain_at M a.cap a.order a.«list».now a.stop
-    (lent_same refl refl refl refl refl refl (c.run-least.auto.words ∙ c.lay.auto.words) c.run-least.auto.floats refl refl c.run-least.auto.values) c.finish-made.ensures)
-    c.stale-old.result (c.stale-old.ensures ∙ ap (stale_of c.finish-made.result.answer) (sym c.lay.auto.us)) c.clear.ensures
+pub returns-in_err-pivot_answer-clause-refused : goal.returns-in_err-pivot_answer-clause-refused
+returns-in_err-pivot_answer-clause-refused c = ?
+
+pub returns-clause-settled : goal.returns-clause-settled
+returns-clause-settled c = ?
