@@ -1,4 +1,3 @@
-use Prim.Native.Nat.{◌-◌}
 use native.Mathlib.Omega.{arith}
 use Rattle.solve.proofs.Viewed.{owner_start, owner_more, owner_is}
 use Rattle.solve.proofs.owner.Goals as goal

@@ -1,7 +1,7 @@
 -- `solving::backward_columns` meets its contract: the columns below c, which are left, take x to the whole. Assumes nothing.
 use mathlib.Core.List.{List}
 use mathlib.Core.Path.{◌≡◌}
-use Prim.Native.Nat.{ℕ, ◌+◌, ◌-◌, ◌≤◌}
+use Prim.Native.Nat.{ℕ, ◌+◌, ◌≤◌}
 use lib.Ieee.{Float}
 use lib.ListN.{length}
 use Rattle.statement.specs.Solve.{backward}

@@ -1,5 +1,4 @@
 use mathlib.Core.Path.{◌≡◌, refl, ◌∙◌}
-use Prim.Native.Nat.{◌-◌}
 use native.Mathlib.Omega.{arith}
 use Rattle.solving.proofs.Walk.{column_within, one_column, column_rows, column_values, forward_more}
 use Rattle.solving.proofs.forward_columns.Goals as goal

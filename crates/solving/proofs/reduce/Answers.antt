@@ -1,5 +1,4 @@
 use mathlib.Core.Path.{refl, sym, ◌∙◌}
-use Prim.Native.Nat.{◌-◌}
 use native.Mathlib.Omega.{arith}
 use Rattle.solving.proofs.Rules.{above_more, above_over}
 use Rattle.solving.proofs.reduce.Goals as goal

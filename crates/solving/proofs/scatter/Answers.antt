@@ -1,4 +1,3 @@
-use Prim.Native.Nat.{◌-◌}
 use native.Mathlib.Omega.{arith}
 use Rattle.laws.proofs.Permuted.{permuted}
 use Rattle.solving.proofs.Order.{back_start, back_more, back_over}
