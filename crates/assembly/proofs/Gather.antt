@@ -19,7 +19,7 @@ use Rattle.assembly.specs.Update.{Source, Updated}
 use Rattle.areas.specs.Touch.{Touched}
 use Rattle.assembly.specs.Ready.{row, Rows, source, low, high, Listed, Placed, Own, Fresh, Stands, supernode_of}
 use Rattle.assembly.specs.declared.Supernode.{Supernode}
-use Rattle.statement.specs.Shape.{Shape, first, width, height, rows_of, trapezoid, size, offset, stretch}
+use Rattle.statement.specs.Shape.{Shape, first, width, height, rows_of, trapezoid, size, offset}
 use Rattle.statement.specs.declared.Update.{Update}
 use Rattle.statement.specs.Lists.{has, place}
 

@@ -14,7 +14,8 @@ ghost use Rattle.panels.specs.Dense.{inner, Column, Dense, passed};
 use panel::{Panel, column_start, panel_start};
 use views::Lower;
 
-// From column c, the products of the columns from c0 before it, singly.
+// From column c, the products of the columns from c0 before it, singly. By `while`: `step_by(4)` would begin the last, shorter group too, and the
+// second loop goes on where the first ends.
 fn singles(own: &mut [f64], m: usize, c0: usize, c: usize)
     requires { (c0 ≤ c) × (c < m) × (m ≤ 32768) × (trapezoid m c + (m - c) ≤ length own.old) }
     ensures { Touched nan own.old own.new (m - c) (λ i. trapezoid m c + i) (λ i. singly (get_or own.old (trapezoid m c + i) nan) (cell m own.old (c + i)) (cell m own.old c) c0 (c - c0)) }

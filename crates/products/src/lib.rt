@@ -119,7 +119,7 @@ fn by_ones(work: &mut [f64], v: &[f64], m: usize, q: usize, kw: usize, from: usi
     }
 }
 
-// The same, four columns at a time while there are four.
+// The same, four columns at a time while there are four. A `while`: `step_by(4)` would begin the last, shorter group too.
 fn by_fours(work: &mut [f64], v: &[f64], m: usize, q: usize, kw: usize, from: usize)
     requires { Begun m q kw from v.now work.old }
     ensures { Touched nan work.old work.new (m - q) (λ i. i) (λ i. dot (cell m v.now (q + i)) (cell m v.now q) kw) }
@@ -139,7 +139,7 @@ fn by_fours(work: &mut [f64], v: &[f64], m: usize, q: usize, kw: usize, from: us
     by_ones(work, v, m, q, kw, k);
 }
 
-// The same, eight columns at a time while there are eight.
+// The same, eight columns at a time while there are eight, by `while` for the same reason.
 fn by_eights(work: &mut [f64], v: &[f64], m: usize, q: usize, kw: usize, from: usize)
     requires { Begun m q kw from v.now work.old }
     ensures { Touched nan work.old work.new (m - q) (λ i. i) (λ i. dot (cell m v.now (q + i)) (cell m v.now q) kw) }

@@ -12,7 +12,6 @@ use Rattle.laws.proofs.Entry.{place_lt, get_d_place, has_of_place, dot_same, sin
 use Rattle.laws.proofs.Stretches.{offset_suc}
 use Rattle.laws.proofs.Inplace.{spot_lt}
 use Rattle.std.specs.Prelude.{Ok, Err}
-use Rattle.assembly.specs.Ready.{supernode_of}
 use Rattle.assembly.specs.declared.Supernode.{Supernode}
 use Rattle.areas.specs.Touch.{Touched}
 use Rattle.panel.specs.View.{cell}

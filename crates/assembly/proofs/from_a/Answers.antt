@@ -1,11 +1,9 @@
 use mathlib.Core.Path.{◌∙◌}
-use Prim.Native.Nat.{◌-◌}
 use native.Mathlib.Omega.{arith}
 use native.Mathlib.Nat.{le_refl}
 use Rattle.views.specs.Shown.{shape_of}
 use Rattle.assembly.proofs.Scatters as scat
 use Rattle.assembly.proofs.Gather as gather
-use Rattle.statement.specs.Shape.{first, size}
 use Rattle.assembly.proofs.from_a.Goals as goal
 
 pub column_start-requires : goal.column_start-requires

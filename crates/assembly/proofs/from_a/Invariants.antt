@@ -1,8 +1,7 @@
 -- `assembly::from_a` meets its contract. After c columns: those hold A's entries, the later ones 0.0. Assumes nothing.
-use Prim.Native.Nat.{◌-◌, ◌≤◌}
+use Prim.Native.Nat.{◌≤◌}
 use Rattle.views.specs.Shown.{shape_of}
 use Rattle.assembly.specs.Assembled.{FromA}
-use Rattle.statement.specs.Shape.{first}
 use Rattle.assembly.proofs.from_a.Given as goal
 
 abbrev pub invariant-loop-c : goal.invariant-loop-c

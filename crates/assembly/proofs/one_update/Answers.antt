@@ -1,5 +1,4 @@
 -- `assembly::one_update` meets its contract. The three words of an update, and what update does with them. Assumes nothing.
-use Prim.Native.Nat.{suc, ◌<◌}
 use native.Mathlib.Nat.{le_refl}
 use native.Mathlib.Omega.{arith}
 use Rattle.views.specs.Shown.{shape_of}

@@ -1,5 +1,4 @@
 use mathlib.Core.Path.{refl}
-use Prim.Native.Nat.{◌-◌}
 use native.Mathlib.Omega.{arith}
 use Rattle.areas.proofs.Touch as touch
 use Rattle.assembly.proofs.set_places.Goals as goal

@@ -1,5 +1,5 @@
 -- `assembly::set_places` meets its contract. Touched up to p; the rows rise, so no place is set twice. Assumes nothing.
-use Prim.Native.Nat.{◌+◌, ◌-◌, ◌≤◌}
+use Prim.Native.Nat.{◌+◌, ◌≤◌}
 use lib.ListN.{get_or}
 use Rattle.areas.specs.Touch.{Touched}
 use Rattle.assembly.proofs.set_places.Given as goal

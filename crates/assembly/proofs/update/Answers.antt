@@ -1,5 +1,4 @@
 use mathlib.Core.Path.{refl, ◌∙◌}
-use Prim.Native.Nat.{◌-◌}
 use native.Mathlib.Omega.{arith}
 use Rattle.assembly.proofs.Takes as takes
 use Rattle.assembly.proofs.update.Goals as goal

@@ -1,6 +1,6 @@
 -- `assembly::update` meets its contract. Target columns below q are done. Assumes nothing.
 use mathlib.Core.Path.{◌≡◌}
-use Prim.Native.Nat.{◌-◌, ◌≤◌}
+use Prim.Native.Nat.{◌≤◌}
 use lib.ListN.{length}
 use Rattle.assembly.specs.Update.{Updated}
 use Rattle.assembly.proofs.update.Given as goal

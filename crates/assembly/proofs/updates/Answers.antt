@@ -1,11 +1,9 @@
 use mathlib.Core.Path.{refl, ◌∙◌}
-use Prim.Native.Nat.{◌-◌}
 use native.Mathlib.Omega.{arith}
 use native.Mathlib.Nat.{le_refl}
 use Rattle.views.specs.Shown.{shape_of}
 use Rattle.assembly.proofs.Gather as gather
 use Rattle.assembly.proofs.Earlies as early
-use Rattle.statement.specs.Shape.{first, size}
 use Rattle.assembly.proofs.updates.Goals as goal
 
 pub loop-u-init : goal.loop-u-init

@@ -1,11 +1,10 @@
 -- `assembly::updates` meets its contract. Each entry has its sums for the supernodes below any N between the updates done and those to come. Assumes nothing.
 use mathlib.Core.Path.{◌≡◌}
-use Prim.Native.Nat.{◌-◌, ◌≤◌}
+use Prim.Native.Nat.{◌≤◌}
 use lib.ListN.{length}
 use Rattle.views.specs.Shown.{shape_of}
 use Rattle.assembly.specs.Ready.{in_words}
 use Rattle.assembly.proofs.Earlies as early
-use Rattle.statement.specs.Shape.{first}
 use Rattle.assembly.proofs.updates.Given as goal
 
 abbrev pub invariant-loop-u : goal.invariant-loop-u

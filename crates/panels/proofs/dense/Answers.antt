@@ -1,5 +1,5 @@
 -- `panels::dense` meets its contract, column by column. Assumes nothing.
-use mathlib.Core.Path.{refl, ap, ◌∙◌}
+use mathlib.Core.Path.{refl, ◌∙◌}
 use Prim.Native.Nat.{suc}
 use native.Mathlib.Omega.{arith}
 use Rattle.laws.proofs.Entry.{trap_suc, trap_mono}

@@ -1,6 +1,6 @@
 -- `panels::find` meets its contract. The places before t do not hold i. Assumes nothing.
 use mathlib.Core.Path.{◌≡◌}
-use Prim.Native.Nat.{◌-◌, ◌≤◌}
+use Prim.Native.Nat.{◌≤◌}
 use Rattle.laws.specs.Lower.{among}
 use Rattle.panels.proofs.find.Given as goal
 

@@ -1,5 +1,5 @@
 -- `products::add1` meets its contract. The loop adds one product at each place: Touched up to i. Assumes nothing.
-use Prim.Native.Nat.{◌-◌, ◌≤◌}
+use Prim.Native.Nat.{◌≤◌}
 use lib.Ieee.{nan}
 use lib.ListN.{get_or}
 use Rattle.areas.specs.Touch.{Touched}

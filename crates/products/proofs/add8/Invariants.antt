@@ -1,5 +1,5 @@
 -- `products::add8` meets its contract. The loop adds eight products at each place: Touched up to i. Assumes nothing.
-use Prim.Native.Nat.{◌-◌, ◌≤◌}
+use Prim.Native.Nat.{◌≤◌}
 use lib.Ieee.{nan}
 use lib.ListN.{get_or}
 use Rattle.areas.specs.Touch.{Touched}

@@ -1,5 +1,4 @@
 use mathlib.Core.Path.{refl}
-use Prim.Native.Nat.{◌-◌}
 use native.Mathlib.Omega.{arith}
 use Rattle.products.proofs.Rising as rise
 use Rattle.laws.proofs.Entry.{trap_mono}

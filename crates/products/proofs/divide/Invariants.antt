@@ -1,5 +1,5 @@
 -- `products::divide` meets its contract. Touched up to i by quotients. Assumes nothing.
-use Prim.Native.Nat.{◌+◌, ◌-◌, ◌≤◌}
+use Prim.Native.Nat.{◌+◌, ◌≤◌}
 use lib.ListN.{get_or}
 use lib.Ieee.{nan, binary64, div}
 use Rattle.areas.specs.Touch.{Touched}

@@ -1,5 +1,5 @@
 -- `products::set1` meets its contract. Touched up to i by a sum of one. Assumes nothing.
-use Prim.Native.Nat.{◌-◌, ◌≤◌}
+use Prim.Native.Nat.{◌≤◌}
 use lib.Ieee.{nan}
 use Rattle.statement.specs.Input.{+0}
 use Rattle.areas.specs.Touch.{Touched}

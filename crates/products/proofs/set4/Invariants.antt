@@ -1,5 +1,5 @@
 -- `products::set4` meets its contract. Touched up to i by sums of four. Assumes nothing.
-use Prim.Native.Nat.{◌-◌, ◌≤◌}
+use Prim.Native.Nat.{◌≤◌}
 use lib.Ieee.{nan}
 use Rattle.statement.specs.Input.{+0}
 use Rattle.areas.specs.Touch.{Touched}

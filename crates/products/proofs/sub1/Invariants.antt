@@ -1,5 +1,5 @@
 -- `products::sub1` meets its contract. Touched up to i; the source lies before the destination. Assumes nothing.
-use Prim.Native.Nat.{◌+◌, ◌-◌, ◌≤◌}
+use Prim.Native.Nat.{◌+◌, ◌≤◌}
 use lib.ListN.{get_or}
 use lib.Ieee.{nan}
 use Rattle.areas.specs.Touch.{Touched}

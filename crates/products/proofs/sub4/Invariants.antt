@@ -1,5 +1,5 @@
 -- `products::sub4` meets its contract. Touched up to i; the sources lie before the destination. Assumes nothing.
-use Prim.Native.Nat.{◌+◌, ◌-◌, ◌≤◌}
+use Prim.Native.Nat.{◌+◌, ◌≤◌}
 use lib.Ieee.{nan}
 use lib.ListN.{get_or}
 use Rattle.areas.specs.Touch.{Touched}

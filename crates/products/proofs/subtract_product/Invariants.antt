@@ -1,5 +1,5 @@
 -- `products::subtract_product` meets its contract. Touched up to i by sums of one; the source lies before the destination. Assumes nothing.
-use Prim.Native.Nat.{◌+◌, ◌-◌, ◌≤◌}
+use Prim.Native.Nat.{◌+◌, ◌≤◌}
 use lib.ListN.{get_or}
 use lib.Ieee.{nan, binary64, sub}
 use Rattle.statement.specs.Input.{+0}

@@ -1,5 +1,5 @@
 -- `products::subtract_run` meets its contract. Touched up to i by differences. Assumes nothing.
-use Prim.Native.Nat.{◌+◌, ◌-◌, ◌≤◌}
+use Prim.Native.Nat.{◌+◌, ◌≤◌}
 use lib.ListN.{get_or}
 use lib.Ieee.{nan, binary64, sub}
 use Rattle.areas.specs.Touch.{Touched}

@@ -1,5 +1,5 @@
 -- `run::run`: the first p names are taken. Assumes nothing.
-use Rattle.std.proofs.Common.{◌-◌, ◌≤◌}
+use Rattle.std.proofs.Common.{◌≤◌}
 use Rattle.std.specs.Prelude.{◌<◌, IfSome}
 use Rattle.answers.specs.Least.{least_of}
 use Rattle.run.proofs.Runs.{Going}

@@ -1,5 +1,5 @@
 -- `spread::product_through` meets its contract. Touched up to i, each at its own place; the source lies before all of them. Assumes nothing.
-use Prim.Native.Nat.{◌+◌, ◌-◌, ◌≤◌}
+use Prim.Native.Nat.{◌≤◌}
 use lib.ListN.{get_or}
 use lib.Ieee.{nan, binary64, sub}
 use Rattle.statement.specs.Input.{+0}

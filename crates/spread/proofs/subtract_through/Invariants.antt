@@ -1,5 +1,5 @@
 -- `spread::subtract_through` meets its contract. Touched up to i, each at its own place. Assumes nothing.
-use Prim.Native.Nat.{◌-◌, ◌≤◌}
+use Prim.Native.Nat.{◌≤◌}
 use lib.ListN.{get_or}
 use lib.Ieee.{nan, binary64, sub}
 use Rattle.areas.specs.Touch.{Touched}

@@ -1,7 +1,4 @@
 -- `assembly::Supernode::of` meets its contract. Assumes nothing.
-use mathlib.Core.Path.{ap}
-use native.Mathlib.Omega.{arith}
-use native.Mathlib.Numerals.{add-one}
 use Rattle.views.specs.Shown.{shape_of}
 use Rattle.assembly.proofs.Gather as gather
 use Rattle.assembly.proofs.Supernode.of.Goals as goal
