@@ -9,7 +9,6 @@ ghost use Rattle.run.specs.Fetch.{Brought};
 
 use statement::{Factored, Update};
 use turn::{group, group_end, keep, name, turn};
-use update::update_at;
 use views::Structure;
 
 // The updates from lo below hi, three words each.
@@ -18,8 +17,7 @@ fn fetch(lo: usize, hi: usize, n: usize, us: &[Update], words: &mut [usize])
     ensures { Brought lo (hi - lo) n us.now words.old words.new }
 {
     for i in lo..hi {
-        let u = update_at(us, i);
-        keep(u, i, lo, n, words);
+        keep(us[i], i, lo, n, words);
     }
 }
 

@@ -1,4 +1,4 @@
-use Rattle.std.proofs.Common.{◌≡◌, arith, add-one}
+use Rattle.std.proofs.Common.{◌≡◌, arith, add-one, refl}
 use Rattle.run.proofs.Fetching.{brought_none, keeps_asked, brought_more}
 use Rattle.run.proofs.fetch.Goals as goal
 
@@ -9,7 +9,7 @@ pub keep-requires : goal.keep-requires
 keep-requires c = keeps_asked c.requires c.loop-i.auto.words c.loop-i.invariant.1 c.loop-i-test.true
 
 pub loop-i-preserved : goal.loop-i-preserved
-loop-i-preserved c = (omega arith, simp add-one (brought_more c.requires c.loop-i.auto.words c.loop-i.invariant.1 c.loop-i-test.true c.update_at-u.ensures c.keep.ensures))
+loop-i-preserved c = (omega arith, simp add-one (brought_more c.requires c.loop-i.auto.words c.loop-i.invariant.1 c.loop-i-test.true refl c.keep.ensures))
 
 pub returns : goal.returns
 returns c =
