@@ -62,7 +62,5 @@ pub fn settle(
         values,
     );
     pivot_answer(least, permutation)?;
-    Ok(finish(
-        found, n, stop, firsts, starts, tasks, top, words, floats,
-    ))
+    Ok(finish(found, n, stop, firsts, starts, tasks, top, words, floats))
 }

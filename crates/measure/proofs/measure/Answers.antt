@@ -68,15 +68,18 @@ returns c =
     let t = carried e.1 (λ n s r. c.tree_and_counts.new.counts ≡ list (count (stored s r) n) n ++ drop n c.args.groups.now) k.counts_after in
     let n = c.entries-entries.ensures ∙ entries_are (pattern M) _ _ _ t in
     record {
-      passed = (e.1, record {
-        calm = past_cap M c.args.cap c.args.room e.0 a _ n c.if-cap-entries.false;
-        well = e.0;
-        room = a;
-        entries = n;
-        work = c.work.ensures ∙ work_is (pattern M) _ _ _ t;
-        four = t;
-        five = carried e.1 (λ n s r. c.tree_and_counts.new.marks ≡ replicate n 0 ++ drop n c.args.tasks.now) k.marks_after;
-        six = carried e.1 (λ n s r. c.tree_and_counts.new.parents ≡ list (parent (stored s r) n) n ++ drop n c.args.top.now) k.parents_after;
-      });
+      passed = (
+        e.1,
+        record {
+          calm = past_cap M c.args.cap c.args.room e.0 a _ n c.if-cap-entries.false;
+          well = e.0;
+          room = a;
+          entries = n;
+          work = c.work.ensures ∙ work_is (pattern M) _ _ _ t;
+          four = t;
+          five = carried e.1 (λ n s r. c.tree_and_counts.new.marks ≡ replicate n 0 ++ drop n c.args.tasks.now) k.marks_after;
+          six = carried e.1 (λ n s r. c.tree_and_counts.new.parents ≡ list (parent (stored s r) n) n ++ drop n c.args.top.now) k.parents_after;
+        },
+      );
       refused = tt;
     }
