@@ -89,8 +89,8 @@ overflow_add-s7 c =
 pub overflow_sub-s7 : goal.overflow_sub-s7
 overflow_sub-s7 c = rise.enough _ c.args.m c.loop-k.k 7 (omega arith)
 
-pub add8-requires : goal.add8-requires
-add8-requires c =
+pub add-requires : goal.add-requires
+add-requires c =
     let f = turn c.requires c.loop-k.invariant.1 c.loop-k-test.true in
     let l = c.loop-k in
     (rise.some _ _ c.requires.here, f.low.in₀, f.low.in₁, f.low.in₂, f.low.in₃, f.high.in₀, f.high.in₁, f.high.in₂, f.high.in₃, (rise.begun_on _ c.requires l.invariant.2 l.invariant.0).room)
@@ -107,7 +107,7 @@ loop-k-preserved c =
     let f = turn c.requires c.loop-k.invariant.1 c.loop-k-test.true in
     let a = c.args in
     let l = c.loop-k in
-    (c.loop-k-test.true, f.at₈, rise.summed_more8 _ a.v.now a.m a.q _ _ _ l.k _ _ _ _ _ _ _ _ _ _ (le_trans c.loop-k-test.true c.requires.above) f l.invariant.2 c.add8.ensures)
+    (c.loop-k-test.true, f.at₈, rise.summed_more8 _ a.v.now a.m a.q _ _ _ l.k _ _ _ _ _ _ _ _ _ _ (le_trans c.loop-k-test.true c.requires.above) f l.invariant.2 c.add.ensures)
 
 pub by_fours-requires : goal.by_fours-requires
 by_fours-requires c =

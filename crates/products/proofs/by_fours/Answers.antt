@@ -57,8 +57,8 @@ overflow_add-s3 c =
 pub overflow_sub-s3 : goal.overflow_sub-s3
 overflow_sub-s3 c = rise.enough _ c.args.m c.loop-k.k 3 (omega arith)
 
-pub add4-requires : goal.add4-requires
-add4-requires c =
+pub add-requires : goal.add-requires
+add-requires c =
     let f = turn c.requires c.loop-k.invariant.1 c.loop-k-test.true in
     let l = c.loop-k in
     (rise.some _ _ c.requires.here, f.in₀, f.in₁, f.in₂, f.in₃, (rise.begun_on _ c.requires l.invariant.2 l.invariant.0).room)
@@ -75,7 +75,7 @@ loop-k-preserved c =
     let f = turn c.requires c.loop-k.invariant.1 c.loop-k-test.true in
     let a = c.args in
     let l = c.loop-k in
-    (c.loop-k-test.true, f.at₄, rise.summed_more4 _ a.v.now a.m a.q _ _ _ l.k _ _ _ _ _ _ (le_trans c.loop-k-test.true c.requires.above) f l.invariant.2 c.add4.ensures)
+    (c.loop-k-test.true, f.at₄, rise.summed_more4 _ a.v.now a.m a.q _ _ _ l.k _ _ _ _ _ _ (le_trans c.loop-k-test.true c.requires.above) f l.invariant.2 c.add.ensures)
 
 pub by_ones-requires : goal.by_ones-requires
 by_ones-requires c =

@@ -19,8 +19,8 @@ loop-k-init c =
     let column-start' = c.column_start in
     (pre'.upto, omega (arith, column-start'.ensures), rise.summed_here _ _ _ _ _ refl (pre'))
 
-pub add1-requires : goal.add1-requires
-add1-requires c =
+pub add-requires : goal.add-requires
+add-requires c =
     let args' = c.args in
     let loop' = c.loop-k in
     let pre' = c.requires in
@@ -38,8 +38,8 @@ loop-k-preserved c =
     let args' = c.args in
     let loop' = c.loop-k in
     let pre' = c.requires in
-    let add1' = c.add1 in
-    (omega arith, rise.at_next args'.m loop'.k _ args'.q _ _ (omega arith) pre'.here refl (omega arith) loop'.invariant.1, rise.summed_more _ args'.v.now args'.m args'.q _ _ _ loop'.k loop'.src (omega arith) loop'.invariant.1 loop'.invariant.2 add1'.ensures)
+    let add' = c.add in
+    (omega arith, rise.at_next args'.m loop'.k _ args'.q _ _ (omega arith) pre'.here refl (omega arith) loop'.invariant.1, rise.summed_more _ args'.v.now args'.m args'.q _ _ _ loop'.k loop'.src (omega arith) loop'.invariant.1 loop'.invariant.2 add'.ensures)
 
 pub shape_of-work : goal.shape_of-work
 shape_of-work c =
