@@ -43,9 +43,9 @@ pub pluses_start : (v : List Float) (at : List ℕ) (i : ℕ) (x : Float) → x 
 unfolding pluses
 pluses_start v at i x = refl
 
-pub pluses_step : (v : List Float) (at : List ℕ) (i : ℕ) (x : Float) (k : ℕ) → plus v (get_or at k 0) i (pluses v at i x k) ≡ pluses v at i x (k + 1)
+pub pluses_more : (v : List Float) (at : List ℕ) (i : ℕ) (x : Float) (k : ℕ) {y : Float} → y ≡ pluses v at i x k → plus v (get_or at k 0) i y ≡ pluses v at i x (k + 1)
 unfolding pluses
-pluses_step v at i x k = ap (pluses v at i x) (sym (add-one k))
+pluses_more v at i x k d = ap (plus v (get_or at k 0) i) d ∙ ap (pluses v at i x) (sym (add-one k))
 
 -- the same, of sums by their equals
 pub pluses_same : (v : List Float) (at : List ℕ) (i : ℕ) {x y z : Float} (k n : ℕ) → z ≡ pluses v at i x k → x ≡ y → k ≡ n → z ≡ pluses v at i y n

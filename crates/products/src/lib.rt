@@ -37,61 +37,33 @@ fn add<const N: usize>(w: &mut [f64], v: &[f64], at: [usize; N], n: usize)
     }
 }
 
-// The sums over the first columns, those below `from`, go on to kw of them, one column at a time.
-fn by_ones(work: &mut [f64], v: &[f64], m: usize, q: usize, kw: usize, from: usize)
-    requires { Begun m q kw from v.now work.old }
-    ensures { Touched nan work.old work.new (m - q) (λ i. i) (λ i. dot (cell m v.now (q + i)) (cell m v.now q) kw) }
+// The sums over the first columns, those below `from`, go on to the column that is the result: N at a time, while there are N below kw. A `while`:
+// `step_by(N)` would begin the last, shorter group too.
+fn by<const N: usize>(
+    work: &mut [f64],
+    v: &[f64],
+    m: usize,
+    q: usize,
+    kw: usize,
+    from: usize,
+) -> usize
+    requires some { 0 < N }
+    requires begun { Begun m q kw from v.now work.old }
+    ensures upto { (result ≤ kw) × (kw < result + N) }
+    ensures sums { Touched nan work.old work.new (m - q) (λ i. i) (λ i. dot (cell m v.now (q + i)) (cell m v.now q) result) }
 {
-    let n = m - q;
-    let mut src = column_start(m, from) + q - from;
-    for k in from..kw {
-        add(work, v, [src], n);
-        src = src + m - k - 1;
-    }
-}
-
-// The same, four columns at a time while there are four. A `while`: `step_by(4)` would begin the last, shorter group too.
-fn by_fours(work: &mut [f64], v: &[f64], m: usize, q: usize, kw: usize, from: usize)
-    requires { Begun m q kw from v.now work.old }
-    ensures { Touched nan work.old work.new (m - q) (λ i. i) (λ i. dot (cell m v.now (q + i)) (cell m v.now q) kw) }
-{
-    let n = m - q;
     let mut k = from;
     let mut src = column_start(m, from) + q - from;
-    while k + 4 <= kw {
-        let d = m - k;
-        let s1 = src + d - 1;
-        let s2 = s1 + d - 2;
-        let s3 = s2 + d - 3;
-        add(work, v, [src, s1, s2, s3], n);
-        src = s3 + d - 4;
-        k += 4;
+    while kw - k >= N {
+        let mut at = [0; N];
+        for j in 0..N {
+            at[j] = src;
+            src = src + m - (k + j) - 1;
+        }
+        add(work, v, at, m - q);
+        k += N;
     }
-    by_ones(work, v, m, q, kw, k);
-}
-
-// The same, eight columns at a time while there are eight, by `while` for the same reason.
-fn by_eights(work: &mut [f64], v: &[f64], m: usize, q: usize, kw: usize, from: usize)
-    requires { Begun m q kw from v.now work.old }
-    ensures { Touched nan work.old work.new (m - q) (λ i. i) (λ i. dot (cell m v.now (q + i)) (cell m v.now q) kw) }
-{
-    let n = m - q;
-    let mut k = from;
-    let mut src = column_start(m, from) + q - from;
-    while k + 8 <= kw {
-        let d = m - k;
-        let s1 = src + d - 1;
-        let s2 = s1 + d - 2;
-        let s3 = s2 + d - 3;
-        let s4 = s3 + d - 4;
-        let s5 = s4 + d - 5;
-        let s6 = s5 + d - 6;
-        let s7 = s6 + d - 7;
-        add(work, v, [src, s1, s2, s3, s4, s5, s6, s7], n);
-        src = s7 + d - 8;
-        k += 8;
-    }
-    by_fours(work, v, m, q, kw, k);
+    k
 }
 
 // One sum for each row from q of an m-row trapezoid: over its first kw columns, each row times row q.
@@ -99,23 +71,10 @@ pub fn sums(work: &mut [f64], v: &[f64], m: usize, q: usize, kw: usize)
     requires { (kw ≤ q) × (q < m) × (m ≤ 32768) × (trapezoid m kw ≤ length v.now) × (m - q ≤ length work.old) }
     ensures { Touched nan work.old work.new (m - q) (λ i. i) (λ i. dot (cell m v.now (q + i)) (cell m v.now q) kw) }
 {
-    let n = m - q;
-    if kw == 0 {
-        clear(work, n);
-        return;
-    }
-    if kw < 4 {
-        clear(work, n);
-        add(work, v, [q], n);
-        by_ones(work, v, m, q, kw, 1);
-        return;
-    }
-    let s1 = q + m - 1;
-    let s2 = s1 + m - 2;
-    let s3 = s2 + m - 3;
-    clear(work, n);
-    add(work, v, [q, s1, s2, s3], n);
-    by_eights(work, v, m, q, kw, 4);
+    clear(work, m - q);
+    let k8 = by::<8>(work, v, m, q, kw, 0);
+    let k4 = by::<4>(work, v, m, q, kw, k8);
+    by::<1>(work, v, m, q, kw, k4);
 }
 
 // work is subtracted from the n places from `at`.
