@@ -5,7 +5,7 @@ use native.Mathlib.Numerals.{add-one}
 use mathlib.Core.List.{List}
 use lib.Ieee.{Float, binary64, of_bits, add, sub, mul}
 use lib.ListN.{get_or}
-use Rattle.products.specs.Products.{plus, pluses}
+use Rattle.products.specs.Products.{plus, less, pluses, lesses}
 use Rattle.statement.specs.Input.{+0}
 use Rattle.statement.specs.Rules.{dot, singly}
 
@@ -50,3 +50,14 @@ pluses_more v at i x k d = ap (plus v (get_or at k 0) i) d ∙ ap (pluses v at i
 -- the same, of sums by their equals
 pub pluses_same : (v : List Float) (at : List ℕ) (i : ℕ) {x y z : Float} (k n : ℕ) → z ≡ pluses v at i x k → x ≡ y → k ≡ n → z ≡ pluses v at i y n
 pluses_same v at i {x} {y} k n d e s = d ∙ ap₂ (pluses v at i) e s
+
+pub lesses_start : (v : List Float) (at : List ℕ) (i : ℕ) (x : Float) → x ≡ lesses v at i x 0
+unfolding lesses
+lesses_start v at i x = refl
+
+pub lesses_more : (v : List Float) (at : List ℕ) (i : ℕ) (x : Float) (k : ℕ) {y : Float} → y ≡ lesses v at i x k → less v (get_or at k 0) i y ≡ lesses v at i x (k + 1)
+unfolding lesses
+lesses_more v at i x k d = ap (less v (get_or at k 0) i) d ∙ ap (lesses v at i x) (sym (add-one k))
+
+pub lesses_same : (v : List Float) (at : List ℕ) (i : ℕ) {x y z : Float} (k n : ℕ) → z ≡ lesses v at i x k → x ≡ y → k ≡ n → z ≡ lesses v at i y n
+lesses_same v at i {x} {y} k n d e s = d ∙ ap₂ (lesses v at i) e s

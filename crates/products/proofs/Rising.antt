@@ -1,8 +1,6 @@
 -- Row q of a trapezoid's columns, one column after the other, and the sums that grow along them, by one, four or eight columns. Assumes nothing.
 use mathlib.Core.Path.{◌≡◌, refl, sym, ap, ap₂, ◌∙◌, subst}
 use mathlib.Core.List.{List}
-use mir.Syntax.{w64}
-use mir.Val.{Fits}
 use Prim.Native.Nat.{ℕ, zero, suc, ◌+◌, ◌-◌, ◌≤◌, ◌<◌}
 use native.Mathlib.Omega.{arith}
 use native.Mathlib.Numerals.{add-one}
@@ -55,63 +53,6 @@ kept m q k at j s l t e i h = one (ℕ_discrete i j)
     one : Dec (i ≡ j) → Stands m q (k + i) (get_or (set at j s) i 0)
     one (yes d) = ap (λ i. get_or (set at j s) i 0) d ∙ get_or-set_same at j s 0 l ∙ e ∙ ap (λ i. trapezoid m (k + i) + (q - (k + i))) (sym d)
     one (no d) = get_or-set_other at j i s 0 d ∙ t i (omega arith)
-
--- what the code takes off the place of the next column
-pub enough : (s m k j : ℕ) → k + j ≤ m → j ≤ s + (m - k)
-enough s m k j h = omega arith
-
--- no sum of a place and a column's length wraps
-pub wide : (s m k q L : ℕ) → s + (m - q) ≤ L → L < 9223372036854775808 → m ≤ 32768 → Fits w64 (s + (m - k))
-wide s m k q L h b f = record { fits = omega arith }
-
--- s₀ to s₃ are where row q of four columns from k on stands, s₄ that of the column after them; each column's rows from q on lie before L
-pub record Four (m k q L s₀ s₁ s₂ s₃ s₄ : ℕ) : Type 0 where
-  pub at₀ : s₀ ≡ trapezoid m k + (q - k)
-  pub at₁ : s₁ ≡ trapezoid m (k + 1) + (q - (k + 1))
-  pub at₂ : s₂ ≡ trapezoid m (k + 2) + (q - (k + 2))
-  pub at₃ : s₃ ≡ trapezoid m (k + 3) + (q - (k + 3))
-  pub at₄ : s₄ ≡ trapezoid m (k + 4) + (q - (k + 4))
-  pub in₀ : s₀ + (m - q) ≤ L
-  pub in₁ : s₁ + (m - q) ≤ L
-  pub in₂ : s₂ + (m - q) ≤ L
-  pub in₃ : s₃ + (m - q) ≤ L
-
-module _ (m k q kw L s₀ s₁ s₂ s₃ s₄ : ℕ) (h : k + 4 ≤ kw) (u : kw ≤ q) (l : q < m) (d : trapezoid m kw ≤ L) where
-  pub four : s₀ ≡ trapezoid m k + (q - k) → s₁ ≡ s₀ + m - (k + 1) → s₂ ≡ s₁ + m - (k + 2) → s₃ ≡ s₂ + m - (k + 3) → s₄ ≡ s₃ + m - (k + 4) → Four m k q L s₀ s₁ s₂ s₃ s₄
-  four e₀ e₁ e₂ e₃ e₄ =
-      record {
-        at₀ = e₀;
-        at₁ = a₁;
-        at₂ = a₂;
-        at₃ = a₃;
-        at₄ = at_next m (k + 3) (k + 4) q s₃ s₄ (omega arith) l (omega arith) e₄ a₃;
-        in₀ = at_in m k q kw s₀ L (omega arith) u l e₀ d;
-        in₁ = at_in m (k + 1) q kw s₁ L (omega arith) u l a₁ d;
-        in₂ = at_in m (k + 2) q kw s₂ L (omega arith) u l a₂ d;
-        in₃ = at_in m (k + 3) q kw s₃ L (omega arith) u l a₃ d;
-      }
-    where
-      a₁ : s₁ ≡ trapezoid m (k + 1) + (q - (k + 1))
-      a₁ = at_next m k (k + 1) q s₀ s₁ (omega arith) l refl e₁ e₀
-
-      a₂ : s₂ ≡ trapezoid m (k + 2) + (q - (k + 2))
-      a₂ = at_next m (k + 1) (k + 2) q s₁ s₂ (omega arith) l (omega arith) e₂ a₁
-
-      a₃ : s₃ ≡ trapezoid m (k + 3) + (q - (k + 3))
-      a₃ = at_next m (k + 2) (k + 3) q s₂ s₃ (omega arith) l (omega arith) e₃ a₂
-
--- the code takes k off m first, and then the number of the column after k
-down : (x s m k j b : ℕ) → k ≤ m → b ≡ k + j → x ≡ s + (m - k) - j → x ≡ s + m - b
-down x s m k j b h e d = omega arith
-
-module _ (m k q kw L s₀ s₁ s₂ s₃ s₄ : ℕ) (u : kw ≤ q) (l : q < m) (d : trapezoid m kw ≤ L)
-    (e₀ : s₀ ≡ trapezoid m k + (q - k)) (e₁ : s₁ ≡ s₀ + (m - k) - 1) (e₂ : s₂ ≡ s₁ + (m - k) - 2) (e₃ : s₃ ≡ s₂ + (m - k) - 3) (e₄ : s₄ ≡ s₃ + (m - k) - 4) where
-  pub fours : k + 4 ≤ kw → Four m k q L s₀ s₁ s₂ s₃ s₄
-  fours h =
-      four m k q kw L s₀ s₁ s₂ s₃ s₄ h u l d e₀ (down s₁ s₀ m k 1 (k + 1) r refl e₁) (down s₂ s₁ m k 2 (k + 2) r refl e₂) (down s₃ s₂ m k 3 (k + 3) r refl e₃) (down s₄ s₃ m k 4 (k + 4) r refl e₄)
-    where
-      r : k ≤ m
-      r = omega arith
 
 -- the sums over the first k columns
 module _ (old v : List Float) (m q n : ℕ) where

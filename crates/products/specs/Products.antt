@@ -17,6 +17,11 @@ unfoldable pub pluses : List Float → List ℕ → ℕ → Float → ℕ → Fl
 pluses v at i x zero = x
 pluses v at i x (suc k) = plus v (get_or at k 0) i (pluses v at i x k)
 
+-- and subtracted
+unfoldable pub lesses : List Float → List ℕ → ℕ → Float → ℕ → Float
+lesses v at i x zero = x
+lesses v at i x (suc k) = less v (get_or at k 0) i (lesses v at i x k)
+
 -- of kw columns of an m-row trapezoid k are summed: work has that sum for each row from q on, where q is a row below the kw columns
 pub record Begun (m q kw k : ℕ) (v work : List Float) : Type 0 where
   pub upto : k ≤ kw

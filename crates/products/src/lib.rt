@@ -10,7 +10,7 @@ ghost use Rattle.statement.specs.Shape.{trapezoid};
 ghost use Rattle.statement.specs.Rules.{dot};
 ghost use Rattle.areas.specs.Touch.{Touched};
 ghost use Rattle.panel.specs.View.{cell};
-ghost use Rattle.products.specs.Products.{plus, pluses, less, Begun};
+ghost use Rattle.products.specs.Products.{plus, pluses, lesses, Begun};
 
 use panel::column_start;
 
@@ -87,33 +87,25 @@ pub fn subtract_run(own: &mut [f64], at: usize, work: &[f64], n: usize)
     }
 }
 
-// From the n places from dst, the products of the n places from src with the first of them.
-pub fn sub1(own: &mut [f64], dst: usize, src: usize, n: usize)
-    requires { (0 < n) × (src + n ≤ dst) × (dst + n ≤ length own.old) }
-    ensures { Touched nan own.old own.new n (λ i. dst + i) (λ i. less own.old src i (get_or own.old (dst + i) nan)) }
+// From the n places from dst, the products of N columns' places with the first of them, one column after the other.
+pub fn sub<const N: usize>(own: &mut [f64], dst: usize, at: [usize; N], n: usize)
+    requires { (0 < n) × ((k : ℕ) → k < N → get_or at k 0 + n ≤ dst) × (dst + n ≤ length own.old) }
+    ensures { Touched nan own.old own.new n (λ i. dst + i) (λ i. lesses own.old at.entry i (get_or own.old (dst + i) nan) N) }
 {
-    let a = own[src];
+    let mut first = [0.0; N];
+    for k in 0..N {
+        first[k] = own[at[k]];
+    }
     for i in 0..n {
-        own[dst + i] = own[dst + i] - own[src + i] * a;
+        let mut x = own[dst + i];
+        for k in 0..N {
+            x -= own[at[k] + i] * first[k];
+        }
+        own[dst + i] = x;
     }
 }
 
-// The same of four sources, one after the other.
-pub fn sub4(own: &mut [f64], dst: usize, s0: usize, s1: usize, s2: usize, s3: usize, n: usize)
-    requires { (0 < n) × (s0 + n ≤ dst) × (s1 + n ≤ dst) × (s2 + n ≤ dst) × (s3 + n ≤ dst) × (dst + n ≤ length own.old) }
-    ensures { Touched nan own.old own.new n (λ i. dst + i) (λ i. less own.old s3 i (less own.old s2 i (less own.old s1 i (less own.old s0 i (get_or own.old (dst + i) nan))))) }
-{
-    let a0 = own[s0];
-    let a1 = own[s1];
-    let a2 = own[s2];
-    let a3 = own[s3];
-    for i in 0..n {
-        own[dst + i] = (((own[dst + i] - own[s0 + i] * a0) - own[s1 + i] * a1) - own[s2 + i] * a2)
-            - own[s3 + i] * a3;
-    }
-}
-
-// From the n places from dst, the same products, each as a sum of one.
+// From the n places from dst, the products of the n places from src with the first of them, each as a sum of one.
 pub fn subtract_product(own: &mut [f64], dst: usize, src: usize, n: usize)
     requires { (0 < n) × (src + n ≤ dst) × (dst + n ≤ length own.old) }
     ensures { Touched nan own.old own.new n (λ i. dst + i) (λ i. sub binary64 (get_or own.old (dst + i) nan) (plus own.old src i +0)) }
