@@ -1,5 +1,4 @@
 -- `products::sums` meets its contract: from no column on, by eight, four and one. Assumes nothing.
-use mathlib.Core.Path.{◌∙◌}
 use Prim.Native.Nat.{◌-◌}
 use native.Mathlib.Omega.{arith}
 use Rattle.products.proofs.Rising as rise
