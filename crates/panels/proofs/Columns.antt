@@ -2,7 +2,7 @@
 use mathlib.Core.Path.{◌≡◌, refl, sym, ap, ap₂, ◌∙◌, subst}
 use mathlib.Core.Bool.{Bool, true, false, cond}
 use mathlib.Core.List.{List}
-use Prim.Native.Nat.{ℕ, suc, ◌+◌, ◌-◌, ◌≤◌, ◌<◌}
+use Prim.Native.Nat.{ℕ, zero, suc, ◌+◌, ◌-◌, ◌≤◌, ◌<◌}
 use native.Mathlib.Omega.{arith}
 use native.Mathlib.Nat.{add-sub_of_le}
 use lib.ListN.{length, get_or, set, length-set}
@@ -15,10 +15,10 @@ use Rattle.laws.proofs.Entry.{trap_suc, trap_mono, singly_same}
 use Rattle.areas.specs.Touch.{Touched}
 use Rattle.panel.specs.View.{cell}
 use Rattle.panels.specs.Dense.{inner, pivot, Column}
-use Rattle.products.specs.Products.{less}
+use Rattle.products.specs.Products.{less, lesses}
 use Rattle.areas.proofs.Touch as touch
 use Rattle.products.proofs.Floats.{singly_start, singly_step}
-use Rattle.products.proofs.Rising.{Four}
+use Rattle.products.proofs.Rising.{Stands}
 use Rattle.statement.specs.Shape.{trapezoid}
 use Rattle.statement.specs.Root.{root}
 use Rattle.statement.specs.Rules.{dot, singly, panel, passes}
@@ -69,31 +69,26 @@ module _ (old : List Float) (m c c0 dst : ℕ) where
         row : (x i : ℕ) → i < m - c → x ≡ trapezoid m j + (c + i - j) → get_or w x nan ≡ cell m old (c + i) (c0 + (j - c0))
         row x i p f = kept x (λ k l g. omega (arith, trap_suc m j, trap_mono m (suc j) c h₁)) ∙ ap (λ x. get_or old x nan) f ∙ ap (cell m old (c + i)) back
 
-  pub singled_more : (w w' : List Float) (k src : ℕ) → dst ≡ trapezoid m c → Singled w k → c0 ≤ k → k < c → c < m → src ≡ trapezoid m k + (c - k) →
-      Touched nan w w' (m - c) (λ i. dst + i) (λ i. less w src i (get_or w (dst + i) nan)) → Singled w' (k + 1)
-  singled_more w w' k src d t h₀ h₁ h₂ e u =
-      touch.again nan old w (m - c) (λ i. dst + i) (λ i. singly (get_or old (dst + i) nan) (cell m old (c + i)) (cell m old c) c0 (k - c0)) _ w' _ t u
-      (λ i p. one_less w d h₂ t.outside src i k (k + 1) _ h₀ h₁ p e refl (t.inside i p))
+    -- and of the N columns from k on
+    many_less : (at : List ℕ) (N i k : ℕ) (x : Float) → c0 ≤ k → k + N ≤ c → i < m - c → ((j : ℕ) → j < N → Stands m c (k + j) (get_or at j 0)) →
+        x ≡ singly (get_or old (dst + i) nan) (cell m old (c + i)) (cell m old c) c0 (k - c0) →
+        lesses w at i x N ≡ singly (get_or old (dst + i) nan) (cell m old (c + i)) (cell m old c) c0 (k + N - c0)
+    unfolding lesses
+    many_less at zero i k x h₀ h₁ p s e = e ∙ ap (singly (get_or old (dst + i) nan) (cell m old (c + i)) (cell m old c) c0) (omega arith)
+    many_less at (suc N) i k x h₀ h₁ p s e =
+        one_less (get_or at N 0) i (k + N) (k + suc N) _ (omega arith) (omega arith) p (s N (omega arith)) (omega arith)
+        (many_less at N i k x h₀ (omega arith) p (λ j l. s j (omega arith)) e)
 
-  -- four columns from k
-  pub singled_more4 : (w w' : List Float) (k s₀ s₁ s₂ s₃ s₄ : ℕ) → dst ≡ trapezoid m c → Singled w k → c0 ≤ k → k + 4 ≤ c → c < m → Four m k c dst s₀ s₁ s₂ s₃ s₄ →
-      Touched nan w w' (m - c) (λ i. dst + i) (λ i. less w s₃ i (less w s₂ i (less w s₁ i (less w s₀ i (get_or w (dst + i) nan))))) → Singled w' (k + 4)
-  singled_more4 w w' k s₀ s₁ s₂ s₃ s₄ d t h₀ h₁ h₂ f u =
+  pub singled_more : (w w' : List Float) (at : List ℕ) (N k : ℕ) → dst ≡ trapezoid m c → Singled w k → c0 ≤ k → k + N ≤ c → c < m →
+      ((j : ℕ) → j < N → Stands m c (k + j) (get_or at j 0)) →
+      Touched nan w w' (m - c) (λ i. dst + i) (λ i. lesses w at i (get_or w (dst + i) nan) N) → Singled w' (k + N)
+  singled_more w w' at N k d t h₀ h₁ h₂ s u =
       touch.again nan old w (m - c) (λ i. dst + i) (λ i. singly (get_or old (dst + i) nan) (cell m old (c + i)) (cell m old c) c0 (k - c0)) _ w' _ t u
-      (λ i p.
-      one_less w d h₂ t.outside s₃ i (k + 3) (k + 4) _ (omega arith) (omega arith) p f.at₃ (omega arith)
-      (one_less w d h₂ t.outside s₂ i (k + 2) (k + 3) _ (omega arith) (omega arith) p f.at₂ (omega arith)
-      (one_less w d h₂ t.outside s₁ i (k + 1) (k + 2) _ (omega arith) (omega arith) p f.at₁ (omega arith)
-      (one_less w d h₂ t.outside s₀ i k (k + 1) _ h₀ (omega arith) p f.at₀ refl (t.inside i p)))))
+      (λ i p. many_less w d h₂ t.outside at N i k _ h₀ h₁ p s (t.inside i p))
 
-  pub singled_all : (w : List Float) (k : ℕ) → dst ≡ trapezoid m c → Singled w k → k ≤ c → c ≤ k →
-      Touched nan old w (m - c) (λ i. trapezoid m c + i) (λ i. singly (get_or old (trapezoid m c + i) nan) (cell m old (c + i)) (cell m old c) c0 (c - c0))
-  singled_all w k d t h l =
-      subst (λ d. Touched nan old w (m - c) (λ i. d + i) (λ i. singly (get_or old (d + i) nan) (cell m old (c + i)) (cell m old c) c0 (c - c0))) d
-      (subst (Singled w) same t)
-    where
-      same : k ≡ c
-      same = omega arith
+  pub singled_at : (w : List Float) (k : ℕ) → dst ≡ trapezoid m c → Singled w k →
+      Touched nan old w (m - c) (λ i. trapezoid m c + i) (λ i. singly (get_or old (trapezoid m c + i) nan) (cell m old (c + i)) (cell m old c) c0 (k - c0))
+  singled_at w k d t = subst (λ d. Touched nan old w (m - c) (λ i. d + i) (λ i. singly (get_or old (d + i) nan) (cell m old (c + i)) (cell m old c) c0 (k - c0))) d t
 
 -- the sum before the panel
 module _ (old : List Float) (m c : ℕ) where
@@ -116,6 +111,36 @@ module _ (old : List Float) (m c : ℕ) where
 pub cells_kept : (old w : List Float) (m c : ℕ) (f : ℕ → Float) → Touched nan old w (m - c) (λ i. trapezoid m c + i) f → (p k : ℕ) → k < c → k ≤ p → p < m → cell m w p k ≡ cell m old p k
 cells_kept old w m c f t p k h₀ h₁ h₂ =
     t.outside (trapezoid m k + (p - k)) (λ i l e. omega (arith, trap_suc m k, trap_mono m (suc k) c h₀))
+
+-- the columns from a on, and those that follow
+singly_on : (v : Float) (x y : ℕ → Float) (a b u w : ℕ) → b ≡ a + u → singly (singly v x y a u) x y b w ≡ singly v x y a (u + w)
+unfolding singly
+singly_on v x y a b u zero e = ap (singly v x y a) (omega arith)
+singly_on v x y a b u (suc w) e =
+    ap₂ (sub binary64) (singly_on v x y a b u w e) (ap (λ p. mul binary64 (x p) (y p)) at) ∙ singly_step v x y a (u + w) ∙ ap (singly v x y a) more
+  where
+    at : b + w ≡ a + (u + w)
+    at = omega arith
+
+    more : u + w + 1 ≡ u + suc w
+    more = omega arith
+
+abbrev pub Singles : List Float → List Float → ℕ → ℕ → ℕ → ℕ → Type 0
+Singles old w m c a b =
+    Touched nan old w (m - c) (λ i. trapezoid m c + i) (λ i. singly (get_or old (trapezoid m c + i) nan) (cell m old (c + i)) (cell m old c) a (b - a))
+
+pub singled_on : (old w w' : List Float) (m c a b k : ℕ) → a ≤ b → b ≤ k → k ≤ c → Singles old w m c a b → Singles w w' m c b k → Singles old w' m c a k
+singled_on old w w' m c a b k h₀ h₁ h₂ t u =
+    touch.again nan old w (m - c) (λ i. trapezoid m c + i) _ _ w' _ t u
+    (λ i p.
+    ap (λ z. singly z (cell m w (c + i)) (cell m w c) b (k - b)) (t.inside i p) ∙
+    singly_same _ (cell m w (c + i)) (cell m w c) (cell m old (c + i)) (cell m old c) b (k - b)
+    (λ j q. (cells_kept old w m c _ t (c + i) j (omega arith) (omega arith) (omega arith), cells_kept old w m c _ t c j (omega arith) (omega arith) (omega arith))) ∙
+    singly_on _ (cell m old (c + i)) (cell m old c) a b (b - a) (k - b) (omega arith) ∙
+    ap (singly (get_or old (trapezoid m c + i) nan) (cell m old (c + i)) (cell m old c) a) (omega arith))
+
+pub singles_to : (old w : List Float) (m c a b k : ℕ) → b ≡ k → Singles old w m c a b → Singles old w m c a k
+singles_to old w m c a b k e t = subst (Singles old w m c a) e t
 
 -- both
 module _ (old : List Float) (m c : ℕ) where

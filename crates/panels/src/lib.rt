@@ -14,30 +14,36 @@ ghost use Rattle.panels.specs.Dense.{inner, Column, Dense, passed};
 use panel::{Panel, column_start, panel_start};
 use views::Lower;
 
-// From column c, the products of the columns from c0 before it, singly. By `while`: `step_by(4)` would begin the last, shorter group too, and the
-// second loop goes on where the first ends.
+// From column c, the products of the columns from `from` below the result, singly: N columns at a time, while there are N before c. A `while`:
+// `step_by(N)` would begin the last, shorter group too.
+fn singles_by<const N: usize>(own: &mut [f64], m: usize, c: usize, from: usize) -> usize
+    requires some { 0 < N }
+    requires stored { (from ≤ c) × (c < m) × (m ≤ 32768) × (trapezoid m c + (m - c) ≤ length own.old) }
+    ensures upto { (from ≤ result) × (result ≤ c) × (c < result + N) }
+    ensures singles { Touched nan own.old own.new (m - c) (λ i. trapezoid m c + i) (λ i. singly (get_or own.old (trapezoid m c + i) nan) (cell m own.old (c + i)) (cell m own.old c) from (result - from)) }
+{
+    let dst = column_start(m, c);
+    let mut k = from;
+    let mut src = column_start(m, from) + c - from;
+    while c - k >= N {
+        let mut at = [0; N];
+        for j in 0..N {
+            at[j] = src;
+            src = src + m - (k + j) - 1;
+        }
+        products::sub(own, dst, at, m - c);
+        k += N;
+    }
+    k
+}
+
+// From column c, the products of the columns from c0 before it, singly.
 fn singles(own: &mut [f64], m: usize, c0: usize, c: usize)
     requires { (c0 ≤ c) × (c < m) × (m ≤ 32768) × (trapezoid m c + (m - c) ≤ length own.old) }
     ensures { Touched nan own.old own.new (m - c) (λ i. trapezoid m c + i) (λ i. singly (get_or own.old (trapezoid m c + i) nan) (cell m own.old (c + i)) (cell m own.old c) c0 (c - c0)) }
 {
-    let dst = column_start(m, c);
-    let n = m - c;
-    let mut k = c0;
-    let mut src = column_start(m, c0) + c - c0;
-    while k + 4 <= c {
-        let d = m - k;
-        let s1 = src + d - 1;
-        let s2 = s1 + d - 2;
-        let s3 = s2 + d - 3;
-        products::sub4(own, dst, src, s1, s2, s3, n);
-        src = s3 + d - 4;
-        k += 4;
-    }
-    while k < c {
-        products::sub1(own, dst, src, n);
-        src = src + m - k - 1;
-        k += 1;
-    }
+    let k = singles_by::<4>(own, m, c, c0);
+    singles_by::<1>(own, m, c, k);
 }
 
 // From column c, the sum over the c0 columns before its panel, if there are any.
