@@ -6,12 +6,12 @@ ghost use Rattle.statement.specs.Input.{matrix};
 ghost use Rattle.statement.specs.Job.{Frames, whole, matrix_of, job_room, written, answer_in, Works};
 ghost use Rattle.factor.specs.Filled.{lent_all};
 
+use areas::Zero;
 use factor::factor;
 use frames::read_job;
 use lines::put_refusal;
 use reply::answer;
-use statement::{Answer, Order, Stop};
-use update::none;
+use statement::{Answer, Order, Stop, Update};
 
 // Factors a job's matrix in lent areas, and as many updates as 01 gives a job, and answers it.
 fn work_in(
@@ -36,7 +36,7 @@ fn work_in(
     requires { length b.old ≤ 128 }
     ensures { (j : Frames) → matrix n input_starts.now input_rows.now input_values.now ≡ matrix_of j → cap ≡ j.cap → lent_all (length permutation.old) (length firsts.old) (length starts.old) (length groups.old) (length tasks.old) (length top.old) (length words.old) (length floats.old) (length rows.old) job_room.updates (length values.old) ≡ job_room → b.old ≡ j.b → record { out = out.exit.now; bytes = result } ≡ answer_in (written (whole j)) out.entry.now }
 {
-    let mut updates = [none(); 8256];
+    let mut updates = [Update::zero(); 8256];
     let x = factor(
         n,
         input_starts,

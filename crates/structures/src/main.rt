@@ -7,12 +7,12 @@ mod sums;
 
 use analyse::analyse;
 use answers::number;
+use areas::Zero;
 use lines::put_hex;
 use lists::{numbers, read_full, say};
-use statement::Outcome;
+use statement::{Outcome, Update};
 use std::io;
 use sums::{sum, sum_updates};
-use update::none;
 
 // Each number in 16 digits, one space apart.
 fn print_line(rt: &impl Print, words: &[u64; 16]) -> io::Result<()> {
@@ -77,7 +77,7 @@ fn answer_in(
     words: &mut [usize],
     rows: &mut [usize],
 ) -> io::Result<()> {
-    let mut updates = [none(); 65536];
+    let mut updates = [Update::zero(); 65536];
     let x = analyse(
         n,
         input_starts,

@@ -1,13 +1,12 @@
 // The structure of a matrix, from the input to the areas: every test of the analysis, and then the lists.
 #![tactic(auto)]
 
-ghost use Rattle.std.specs.Prelude.{◌≡◌, IfOk, IfErr};
+ghost use Rattle.std.specs.Prelude.{◌≡◌, ◌++◌, ◌≤◌, length, take, drop, IfOk, IfErr};
 ghost use Rattle.std.proofs.Math.Option.{some};
 ghost use Rattle.views.specs.Shown.{matrix_of};
 ghost use Rattle.survey.specs.Laid.{structure_fault, Laid, Blank};
 
 use analysis::build;
-use areas::copy_part;
 use clearing::clear_behind;
 use measure::measure;
 use statement::{Answer, Room};
@@ -21,6 +20,14 @@ pub struct Findings {
     pub updates: usize,
     pub entries: usize,
     pub work: usize,
+}
+
+// Where the updates of the first ns targets start, to the front of a part of the words.
+fn put_starts(ns: usize, groups: &[usize], to: &mut [usize])
+    requires { (ns ≤ length groups.now) × (ns ≤ length to.old) }
+    ensures { to.new ≡ take ns groups.now ++ drop ns to.old }
+{
+    to[..ns].copy_from_slice(&groups[..ns]);
 }
 
 // Areas 1 to 6 are zero before. Where it passes the areas hold the structure and zeros behind it, tasks the places of the columns and then the
@@ -58,7 +65,7 @@ pub fn survey(
         &mut words[owners..],
         rows,
     )?;
-    copy_part(counts.supernodes, groups, &mut words[n + 1..]);
+    put_starts(counts.supernodes, groups, &mut words[n + 1..]);
     clear_behind(counts.rows, rows);
     Ok(Findings {
         supernodes: counts.supernodes,

@@ -5,15 +5,15 @@
 
 mod line;
 
+use areas::Zero;
 use factor::factor;
 use line::{print, sum};
 use lists::{numbers, read_full};
 use matrices::{Kind, Size, matrix};
 use solve::solve;
-use statement::{Order, Outcome, Stop};
+use statement::{Order, Outcome, Stop, Update};
 use std::io;
 use std::num::nearest_usize_to_f64;
-use update::none;
 
 // The right sides: b(i) = i + 1 over all of them, so that no two are the same.
 fn put_sides(b: &mut [f64]) {
@@ -74,7 +74,7 @@ fn run_in(
     values: &mut [f64],
     b: &mut [f64],
 ) -> io::Result<()> {
-    let mut updates = [none(); 16384];
+    let mut updates = [Update::zero(); 16384];
     let x = factor(
         n,
         input_starts,

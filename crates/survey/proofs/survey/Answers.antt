@@ -67,8 +67,8 @@ returns-in_err-counts-clause-refused c =
     rw (exit_is c.from_residual-in_err-counts.ensures.1)
     (at_later M c.args.cap c.args.room e.1.calm _ e.1.entries (carried e.0 (λ n s r. short (later_needs (stored s r) n c.in_ok-found.found.entries c.args.room) ≡ some c.in_err-counts.field-0.0) c.in_err-counts.ensures.refused))
 
-pub slice_bounds-copy_part-count : goal.slice_bounds-copy_part-count
-slice_bounds-copy_part-count c =
+pub slice_bounds-put_starts-count : goal.slice_bounds-put_starts-count
+slice_bounds-put_starts-count c =
     let M = matrix_of c.args.matrix.now in
     let e = c.in_ok-found.ensures.passed in
     let z = e.1 in
@@ -77,8 +77,8 @@ slice_bounds-copy_part-count c =
     let long = words_long M c.args.cap c.args.room q _ _ _ _ _ z in
     omega (arith, long, owned_length M.n w c.build.new.words (omega (arith, long)) c.build.auto.words)
 
-pub slice_bounds-copy_part-start : goal.slice_bounds-copy_part-start
-slice_bounds-copy_part-start c =
+pub slice_bounds-put_starts-start : goal.slice_bounds-put_starts-start
+slice_bounds-put_starts-start c =
     let M = matrix_of c.args.matrix.now in
     let e = c.in_ok-found.ensures.passed in
     let z = e.1 in
@@ -87,8 +87,8 @@ slice_bounds-copy_part-start c =
     let long = words_long M c.args.cap c.args.room q _ _ _ _ _ z in
     omega (arith, long, owned_length M.n w c.build.new.words (omega (arith, long)) c.build.auto.words)
 
-pub copy_part-requires : goal.copy_part-requires
-copy_part-requires c =
+pub put_starts-requires : goal.put_starts-requires
+put_starts-requires c =
     let M = matrix_of c.args.matrix.now in
     let e = c.in_ok-found.ensures.passed in
     let z = e.1 in
@@ -96,8 +96,8 @@ copy_part-requires c =
     let w = c.args.words.now in
     let long = words_long M c.args.cap c.args.room q _ _ _ _ _ z in
     let b = carried e.0 (λ n s r. Analysed (stored s r) n c.in_ok-found.found.entries c.args.room c.in_ok-counts.counts.supernodes c.in_ok-counts.counts.rows c.in_ok-counts.counts.updates
-        c.args.permutation.now c.args.firsts.now c.args.starts.now c.measure.new.groups c.measure.new.tasks c.args.rows.now
-        c.build.new.permutation c.build.new.firsts c.build.new.starts c.build.new.groups c.build.new.tasks c.build.new.words c.build.new.rows) c.in_ok-counts.ensures.passed in
+    c.args.permutation.now c.args.firsts.now c.args.starts.now c.measure.new.groups c.measure.new.tasks c.args.rows.now
+    c.build.new.permutation c.build.new.firsts c.build.new.starts c.build.new.groups c.build.new.tasks c.build.new.words c.build.new.rows) c.in_ok-counts.ensures.passed in
     let few = few_in M.n M.starts M.rows z.well.columns z.well.small b.numbered in
     let k = owned_length M.n w c.build.new.words (omega (arith, long)) c.build.auto.words in
     (omega (arith, few, groups_long M c.args.cap c.args.room q _ _ _ _ _ z, c.build.auto.groups, c.measure.auto), omega (arith, few, long, k, tail_length (places_at M.n) (owned M.n w c.build.new.words (omega (arith, long)) c.build.auto.words) (omega (arith, k, long))))
@@ -114,15 +114,15 @@ returns c =
     let w = c.args.words.now in
     let long = words_long M c.args.cap c.args.room q _ _ _ _ _ z in
     let b = carried e.0 (λ n s r. Analysed (stored s r) n c.in_ok-found.found.entries c.args.room c.in_ok-counts.counts.supernodes c.in_ok-counts.counts.rows c.in_ok-counts.counts.updates
-        c.args.permutation.now c.args.firsts.now c.args.starts.now c.measure.new.groups c.measure.new.tasks c.args.rows.now
-        c.build.new.permutation c.build.new.firsts c.build.new.starts c.build.new.groups c.build.new.tasks c.build.new.words c.build.new.rows) c.in_ok-counts.ensures.passed in
+    c.args.permutation.now c.args.firsts.now c.args.starts.now c.measure.new.groups c.measure.new.tasks c.args.rows.now
+    c.build.new.permutation c.build.new.firsts c.build.new.starts c.build.new.groups c.build.new.tasks c.build.new.words c.build.new.rows) c.in_ok-counts.ensures.passed in
     let few = few_in M.n M.starts M.rows z.well.columns z.well.small b.numbered in
     let many : c.in_ok-counts.counts.supernodes ≤ length c.build.new.groups = omega (arith, few, groups_long M c.args.cap c.args.room q _ _ _ _ _ z, c.build.auto.groups, c.measure.auto) in
     record {
       passed = laid M c.args.cap c.args.room q _ _ _ _ _ z (omega (arith, c.measure.auto)) (omega (arith, c.measure.auto)) (omega (arith, c.measure.auto)) _ _ (zeros_behind b (c.build.auto.rows ∙ q.nine_long) c.clear_behind.ensures) refl refl refl _ _
           (owners_long M.n w c.build.new.words (omega (arith, long)) c.build.auto.words)
-          (owners_stay M.n w c.build.new.words (omega (arith, long)) c.build.auto.words c.in_ok-counts.counts.supernodes c.build.new.groups c.copy_part.new.to few many c.copy_part.ensures)
-          (places_in M.n w c.build.new.words (omega (arith, long)) c.build.auto.words c.in_ok-counts.counts.supernodes c.build.new.groups c.copy_part.new.to few many c.copy_part.ensures)
-          (placed_length M.n w c.build.new.words (omega (arith, long)) c.build.auto.words c.in_ok-counts.counts.supernodes c.build.new.groups c.copy_part.new.to few many c.copy_part.ensures c.copy_part.auto.to);
+          (owners_stay M.n w c.build.new.words (omega (arith, long)) c.build.auto.words c.in_ok-counts.counts.supernodes c.build.new.groups c.put_starts.new.to few many c.put_starts.ensures)
+          (places_in M.n w c.build.new.words (omega (arith, long)) c.build.auto.words c.in_ok-counts.counts.supernodes c.build.new.groups c.put_starts.new.to few many c.put_starts.ensures)
+          (placed_length M.n w c.build.new.words (omega (arith, long)) c.build.auto.words c.in_ok-counts.counts.supernodes c.build.new.groups c.put_starts.new.to few many c.put_starts.ensures c.put_starts.auto.to);
       refused = tt;
     }
