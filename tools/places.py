@@ -53,6 +53,11 @@ structure::owner_or postorder::moved
 lower::count_line lower::put_line
 tree::entries tree::work
 structures::sum widths::sum
+tasks::own_begins order::count_up
+solving::forward solving::backward
+solving::forward_column solving::backward_column
+solving::forward_columns solving::backward_columns
+frame::begin frame::stored frame::side
 """
 
 
