@@ -1,4 +1,5 @@
-// The first call: the structure of a matrix's factor, in lent areas.
+// The first call: the structure of a matrix's factor, in lent areas. These stay single slices all the way down: C lends them so, and a struct of
+// lent `&mut` slices needs, in each contract, a clause for each field that it is still the caller's.
 #![tactic(auto)]
 
 ghost use Rattle.std.specs.Prelude.{[], length, IfOk, IfErr, ◌≡◌};

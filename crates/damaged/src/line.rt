@@ -7,6 +7,7 @@ use lists::{say, say_bits, say_number};
 use statement::{Answer, Stage};
 use std::io;
 
+// Printed by functions, not by Display: a Stage is of another crate, which a Display here could not be written for, and the others read alike.
 pub fn say_dish(rt: &impl Print, dish: Dish) -> io::Result<()> {
     match dish {
         Dish::Six => say(rt, b"six"),

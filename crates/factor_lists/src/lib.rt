@@ -72,6 +72,7 @@ fn permutes_slowly(n: usize, p: &[usize]) -> bool
     requires { n ≤ length p.now }
     ensures { result ≡ permutes n p.now }
 {
+    // not all: tried over 0..n, and it stayed open that the numbers before the one that failed were tested
     for v in 0..n {
         if count(p, v, n) != 1 {
             return false;

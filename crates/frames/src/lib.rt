@@ -171,6 +171,8 @@ fn take_end(p: Progress, starts: &mut [usize]) -> Option<Progress>
     })
 }
 
+// The four areas stay single slices, here and in what calls: a struct of lent `&mut` slices needs, in each contract, a clause for each field that it is
+// still the caller's.
 // One line more, which is given without its LF.
 pub fn step(
     p: Progress,

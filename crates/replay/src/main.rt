@@ -59,7 +59,7 @@ fn answer_rest(
     Ok(true)
 }
 
-// Answers one item, and says whether to go on.
+// Answers one item, and says whether to go on: a Result for what failed, and a bool, since an Option<()> in it would say no more.
 fn answer_next(rt: &(impl Print + Eprint), input: &mut impl Read) -> Result<bool> {
     let mut line = [0u8; 9];
     if read_full(input, &mut line).context("replay: standard input")? == 0 {

@@ -99,7 +99,8 @@ fn reduce_column(rows: &[usize], values: &[f64], q: usize, t: f64, x: &[f64]) ->
     }
 }
 
-// Column q, falling: subtract for each row below, then divide.
+// Column q, falling: subtract for each row below, then divide. Beside forward_column: what that writes this reads, so that one function of both would
+// be two behind a flag.
 fn backward_column(rows: &[usize], values: &[f64], q: usize, x: &mut [f64])
     requires { Column rows.now values.now q (length x.old) }
     ensures { (S : Shape) (v : List Float) → rows.now ≡ rows_in S q → values.now ≡ values_in S v q → x.new ≡ backward_at S v x.old q }

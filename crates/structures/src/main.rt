@@ -143,6 +143,7 @@ fn answer(
 }
 
 // Whether the numbers of a line are a matrix with no more entries than the values; if so it is answered.
+// A bool in a Result, since an Option<()> in it would say no more.
 fn is_answered(rt: &impl Print, line: &[usize], values: &[f64]) -> io::Result<bool> {
     if line.len() < 2 {
         return Ok(false);
