@@ -15,7 +15,7 @@ use survey::Findings;
 use tasks::split;
 
 // The tasks and the top of what was found, the record that says so, and clear scratch.
-pub fn finish(
+pub fn close(
     found: Findings,
     n: usize,
     stop: Stop,

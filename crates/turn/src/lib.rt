@@ -118,9 +118,8 @@ pub fn turn(
     values: &mut [f64],
 ) -> Option<Factored>
     requires due { (Due structure.now.n structure.now.firsts.now structure.now.starts.now structure.now.rows.now ns groups.now words.old matrix.now entries (length work.old)) × (j < ns) × (Fetched (shape_of structure.now) j groups.now words.old) × (entries ≤ length values.old) }
-    requires below { IfSome least (λ c. c.0 < structure.now.n) }
     ensures turned { (Turned (under structure.now.n structure.now.firsts.now structure.now.starts.now structure.now.rows.now (drop (parents_at structure.now.n) words.old)) (lower_value (drop (starts_at structure.now.n) words.old) (drop (rows_at structure.now.n) words.old) matrix.now) ns j (least_of structure.now.n least) (least_of structure.now.n result) words.old words.new (take entries values.old) (take entries values.new)) × (drop entries values.new ≡ drop entries values.old) }
-    ensures below { IfSome result (λ c. c.0 < structure.now.n) }
+    ensures below { IfSome least (λ c. c.0 < structure.now.n) → IfSome result (λ c. c.0 < structure.now.n) }
 {
     let p = words[7 * structure.n + 1 + j];
     if words[j] != 0 {

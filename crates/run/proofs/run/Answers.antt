@@ -19,10 +19,10 @@ pub fetch-requires : goal.fetch-requires
 fetch-requires c = fetch_asked (λ h. asked c.split_at_mut-matrix.ensures.front c.split_at_mut-matrix.ensures.back_len c.loop-p.auto.work (c.requires h)) c.loop-p.invariant.1 c.loop-p-test.true c.name-j.ensures c.group.ensures c.group_end.ensures
 
 pub turn-least-requires : goal.turn-least-requires
-turn-least-requires c = record { due = turn_asked (λ h. asked c.split_at_mut-matrix.ensures.front c.split_at_mut-matrix.ensures.back_len c.loop-p.auto.work (c.requires h)) c.loop-p.invariant.1 c.loop-p-test.true c.name-j.ensures c.group.ensures c.group_end.ensures c.fetch.ensures c.fetch.auto.words; below = c.loop-p.invariant.2 }
+turn-least-requires c = record { due = turn_asked (λ h. asked c.split_at_mut-matrix.ensures.front c.split_at_mut-matrix.ensures.back_len c.loop-p.auto.work (c.requires h)) c.loop-p.invariant.1 c.loop-p-test.true c.name-j.ensures c.group.ensures c.group_end.ensures c.fetch.ensures c.fetch.auto.words }
 
 pub loop-p-preserved : goal.loop-p-preserved
-loop-p-preserved c = (omega arith, rw add-one (one_more (λ h. asked c.split_at_mut-matrix.ensures.front c.split_at_mut-matrix.ensures.back_len c.loop-p.auto.work (c.requires h)) c.loop-p.invariant.1 c.loop-p-test.true c.name-j.ensures c.group.ensures c.group_end.ensures c.fetch.ensures c.fetch.auto.words c.turn-least.ensures.turned c.turn-least.auto.words c.turn-least.auto.values), c.turn-least.ensures.below)
+loop-p-preserved c = (omega arith, rw add-one (one_more (λ h. asked c.split_at_mut-matrix.ensures.front c.split_at_mut-matrix.ensures.back_len c.loop-p.auto.work (c.requires h)) c.loop-p.invariant.1 c.loop-p-test.true c.name-j.ensures c.group.ensures c.group_end.ensures c.fetch.ensures c.fetch.auto.words c.turn-least.ensures.turned c.turn-least.auto.words c.turn-least.auto.values), c.turn-least.ensures.below c.loop-p.invariant.2)
 
 pub returns-clause-left : goal.returns-clause-left
 returns-clause-left c = ended (λ h. asked c.split_at_mut-matrix.ensures.front c.split_at_mut-matrix.ensures.back_len c.loop-p.auto.work (c.requires h)) c.loop-p.invariant.1 (sym c.split_at_mut-matrix.ensures.front) (omega arith)

@@ -1,52 +1,31 @@
--- `settling::settle` meets its contract: call by call. Assumes nothing.
-use Rattle.std.proofs.Common.{refl, sym, ap, ◌∙◌, length}
-use lib.ListN.{replicate}
-use Rattle.statement.specs.declared.Answer.TheVariants.{Accepted}
-use Rattle.std.proofs.lemmas.Option.{IfSome_then}
-use native.Mathlib.Omega.{arith}
-use Rattle.laws.specs.Numbered.{shape_for}
-use Rattle.laws.proofs.Passed.{exit_is}
+-- `settling::settle` meets its contract: filled, or cleared. Assumes nothing.
+use Rattle.std.proofs.Common.{refl, ◌≡◌, ◌∙◌, length}
+use Rattle.std.proofs.lemmas.Result.{IfErr-at_err}
 use Rattle.views.specs.Shown.{matrix_of}
-use Rattle.answers.specs.Least.{least_of}
-use Rattle.begin.specs.Begun.{lent_all, zero_floats}
-use Rattle.survey.proofs.Asking.{split_ready, split_given}
-use Rattle.finish.proofs.Running.{run_ready, over}
-use Rattle.finish.proofs.Outcomes.{columns_there, refused_pivot, passed_pivot, settles_accepted, ten_accepted}
+use mathlib.Core.Option.{some}
+use Rattle.begin.specs.Begun.{lent_all, begin_fault}
+use Rattle.finish.proofs.Outcomes.{refused_before, settles_refused, ten_refused}
 use Rattle.settling.proofs.settle.Goals as goal
 
-pub lay-requires : goal.lay-requires
-lay-requires c = λ _. c.requires.prepared.laid.laying
-
-pub run-least-requires : goal.run-least-requires
-run-least-requires c = let a = c.args in run_ready c.requires.prepared c.lay.ensures c.lay.auto.words _ (c.stop_at.ensures (shape_for (matrix_of a.matrix.now)) (sym c.requires.prepared.laid.many_supernodes))
-
-pub pivot_answer-requires : goal.pivot_answer-requires
-pivot_answer-requires c =
+pub returns-in-Err-fill : goal.returns-in-Err-fill
+returns-in-Err-fill c =
     let a = c.args in
-    let h = columns_there (matrix_of a.matrix.now) _ c.requires.prepared.laid.one in
-    IfSome_then c.run-least.result c.run-least.ensures.below (λ f k. omega (arith, h, k))
-
-pub returns-in_err-pivot_answer-clause-refused : goal.returns-in_err-pivot_answer-clause-refused
-returns-in_err-pivot_answer-clause-refused c =
-    let a = c.args in
-    let p = c.requires.prepared in
-    let o = over p c.lay.ensures c.lay.auto.words _ (c.stop_at.ensures (shape_for (matrix_of a.matrix.now)) (sym c.requires.prepared.laid.many_supernodes)) c.run-least.ensures.left c.run-least.auto.values in
-    rw (exit_is c.from_residual.ensures.1) (refused_pivot (matrix_of a.matrix.now) a.cap a.order a.«list».now a.stop (lent_all (length a.permutation.now) (length a.firsts.now) (length a.starts.now) (length a.groups.now) (length a.tasks.now) (length a.top.now) (length a.words.now) (length a.floats.now) (length a.rows.now) (length a.updates.now) (length a.values.now)) p.laid p.ordered.legal (least_of a.matrix.now.n c.run-least.result) o.low (c.in_err-pivot_answer.ensures a.matrix.now.n c.run-least.ensures.below))
-
-pub finish-requires : goal.finish-requires
-finish-requires c =
-    let a = c.args in
-    let q = split_ready c.requires.prepared.laid a.top.now c.run-least.new.words refl refl (c.run-least.auto.words ∙ c.lay.auto.words ∙ c.requires.prepared.words_long) in
-    record { n_in_bounds = q.0; ns_bound = q.1.0; ns_in_bounds = q.1.1 }
-
-pub returns-clause-settled : goal.returns-clause-settled
-returns-clause-settled c =
-    let a = c.args in
-    let p = c.requires.prepared in
-    let o = over p c.lay.ensures c.lay.auto.words _ (c.stop_at.ensures (shape_for (matrix_of a.matrix.now)) (sym c.requires.prepared.laid.many_supernodes)) c.run-least.ensures.left c.run-least.auto.values in
-    let none = passed_pivot (matrix_of a.matrix.now) a.cap a.order a.«list».now a.stop (lent_all (length a.permutation.now) (length a.firsts.now) (length a.starts.now) (length a.groups.now) (length a.tasks.now) (length a.top.now) (length a.words.now) (length a.floats.now) (length a.rows.now) (length a.updates.now) (length a.values.now)) p.laid p.ordered.legal (least_of a.matrix.now.n c.run-least.result) o.low (c.in_ok-pivot_answer.ensures a.matrix.now.n c.run-least.ensures.below) in
-    let f = c.finish.ensures in
+    let l = c.fill.auto in
+    let q = c.in-Err-fill.ensures.refused in
+    let z = c.cleared.ensures in
     record {
-      plain = settles_accepted (matrix_of a.matrix.now) a.cap a.order a.«list».now a.stop (lent_all (length a.permutation.now) (length a.firsts.now) (length a.starts.now) (length a.groups.now) (length a.tasks.now) (length a.top.now) (length a.words.now) (length a.floats.now) (length a.rows.now) (length a.updates.now) (length a.values.now)) a.found o (f.parts (shape_for (matrix_of a.matrix.now)) (split_given p.laid)) refl refl _ (f.state (shape_for (matrix_of a.matrix.now)) (sym p.laid.many_supernodes)) _ none (ap (λ R. record { answer = Accepted; «record» = R }) f.counted) (f.cleared.0 ∙ ap (λ m. replicate m 0) (c.run-least.auto.words ∙ c.lay.auto.words)) (f.cleared.1 ∙ ap zero_floats c.run-least.auto.floats);
-      ten_holds = ten_accepted (matrix_of a.matrix.now) a.cap a.order a.«list».now a.stop (lent_all (length a.permutation.now) (length a.firsts.now) (length a.starts.now) (length a.groups.now) (length a.tasks.now) (length a.top.now) (length a.words.now) (length a.floats.now) (length a.rows.now) (length a.updates.now) (length a.values.now)) p.laid c.lay.ensures refl none;
+      plain = settles_refused (matrix_of a.matrix.now) a.cap a.order a.«list».now a.stop (lent_all (length a.permutation.now) (length a.firsts.now) (length a.starts.now) (length a.groups.now) (length a.tasks.now) (length a.top.now) (length a.words.now) (length a.floats.now) (length a.rows.now) (length a.updates.now) (length a.values.now)) q c.fill.new.floats c.fill.new.values z.outcome.0 z.outcome.1 z.zeroed z.floats_after
+          (record { one = refl; two = refl; three = refl; four = refl; five = l.tasks; six = l.top; seven = l.words; nine_long = refl }) l.floats l.values;
+      ten_holds = z.updates_after ∙ ten_refused (matrix_of a.matrix.now) a.cap a.order a.«list».now a.stop (lent_all (length a.permutation.now) (length a.firsts.now) (length a.starts.now) (length a.groups.now) (length a.tasks.now) (length a.top.now) (length a.words.now) (length a.floats.now) (length a.rows.now) (length a.updates.now) (length a.values.now)) q l.updates;
+    }
+
+pub returns-in-Err : goal.returns-in-Err
+returns-in-Err c =
+    let a = c.args in
+    let q = refused_before (matrix_of a.matrix.now) a.cap a.order a.«list».now a.stop (lent_all (length a.permutation.now) (length a.firsts.now) (length a.starts.now) (length a.groups.now) (length a.tasks.now) (length a.top.now) (length a.words.now) (length a.floats.now) (length a.rows.now) (length a.updates.now) (length a.values.now)) (IfErr-at_err (λ e. begin_fault (matrix_of a.matrix.now) a.cap a.order a.«list».now a.stop (lent_all (length a.permutation.now) (length a.firsts.now) (length a.starts.now) (length a.groups.now) (length a.tasks.now) (length a.top.now) (length a.words.now) (length a.floats.now) (length a.rows.now) (length a.updates.now) (length a.values.now)) ≡ some e) c.in-Err.is c.requires.refused) in
+    let z = c.cleared-in-Err.ensures in
+    record {
+      plain = settles_refused (matrix_of a.matrix.now) a.cap a.order a.«list».now a.stop (lent_all (length a.permutation.now) (length a.firsts.now) (length a.starts.now) (length a.groups.now) (length a.tasks.now) (length a.top.now) (length a.words.now) (length a.floats.now) (length a.rows.now) (length a.updates.now) (length a.values.now)) q a.floats.now a.values.now z.outcome.0 z.outcome.1 z.zeroed z.floats_after
+          (record { one = refl; two = refl; three = refl; four = refl; five = refl; six = refl; seven = refl; nine_long = refl }) refl refl;
+      ten_holds = z.updates_after ∙ ten_refused (matrix_of a.matrix.now) a.cap a.order a.«list».now a.stop (lent_all (length a.permutation.now) (length a.firsts.now) (length a.starts.now) (length a.groups.now) (length a.tasks.now) (length a.top.now) (length a.words.now) (length a.floats.now) (length a.rows.now) (length a.updates.now) (length a.values.now)) q refl;
     }

@@ -36,6 +36,6 @@ returns-in-Err-clause-turned c =
     states.over _ _ _ _ _ _ _ _ a.values.now o.new.values a.entries c.requires.due.3 o.auto.values (states.broken s.n s.firsts.now s.starts.now s.rows.now a.ns a.groups.now a.words.now a.matrix.now (take a.entries a.values.now) a.entries _ c.requires.due.0 A a.j c.requires.due.1 (least_of s.n a.least) _ refl c.if-words-j-ne0.false o.new.words o.new.values o.ensures.words_unchanged.0 o.ensures.words_unchanged.1 o.auto.words o.auto.values _ c.in-Err.c _ _ (c.failed.ensures.least s.n c.in-Err.ensures.below) c.failed.ensures.words c.in-Err.is o.ensures.stepped)
 
 pub returns-in-Err-clause-below : goal.returns-in-Err-clause-below
-returns-in-Err-clause-below c =
+returns-in-Err-clause-below c = λ _.
     let e = c.failed.ensures.least c.args.structure.now.n c.in-Err.ensures.below in
     omega (arith, ap (λ x. x.0) e, c.in-Err.ensures.below)
