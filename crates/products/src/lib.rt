@@ -28,10 +28,14 @@ fn add<const N: usize>(w: &mut [f64], v: &[f64], at: [usize; N], n: usize)
     requires { (0 < n) × ((k : ℕ) → k < N → get_or at k 0 + n ≤ length v.now) × (n ≤ length w.old) }
     ensures { Touched nan w.old w.new n (λ i. i) (λ i. pluses v.now at.entry i (get_or w.old i nan) N) }
 {
+    let mut first = [0.0; N];
+    for k in 0..N {
+        first[k] = v[at[k]];
+    }
     for i in 0..n {
         let mut x = w[i];
         for k in 0..N {
-            x += v[at[k] + i] * v[at[k]];
+            x += v[at[k] + i] * first[k];
         }
         w[i] = x;
     }
