@@ -5,7 +5,7 @@ use native.Mathlib.Numerals.{add-one}
 use mathlib.Core.List.{List}
 use lib.Ieee.{Float, binary64, of_bits, add, sub, mul}
 use lib.ListN.{get_or}
-use Rattle.products.specs.Products.{less, lesses}
+use Rattle.products.specs.Products.{plus, less, pluses, lesses}
 use Rattle.statement.specs.Input.{+0}
 use Rattle.statement.specs.Rules.{dot, singly}
 
@@ -38,6 +38,18 @@ singly_start v x y a = refl
 pub singly_step : (v : Float) (x y : ℕ → Float) (a w : ℕ) → sub binary64 (singly v x y a w) (mul binary64 (x (a + w)) (y (a + w))) ≡ singly v x y a (w + 1)
 unfolding singly
 singly_step v x y a w = ap (singly v x y a) (sym (add-one w))
+
+pub pluses_start : (v : List Float) (at : List ℕ) (i : ℕ) (x : Float) → x ≡ pluses v at i x 0
+unfolding pluses
+pluses_start v at i x = refl
+
+pub pluses_more : (v : List Float) (at : List ℕ) (i : ℕ) (x : Float) (k : ℕ) {y : Float} → y ≡ pluses v at i x k → plus v (get_or at k 0) i y ≡ pluses v at i x (k + 1)
+unfolding pluses
+pluses_more v at i x k d = ap (plus v (get_or at k 0) i) d ∙ ap (pluses v at i x) (sym (add-one k))
+
+-- the same, of sums by their equals
+pub pluses_same : (v : List Float) (at : List ℕ) (i : ℕ) {x y z : Float} (k n : ℕ) → z ≡ pluses v at i x k → x ≡ y → k ≡ n → z ≡ pluses v at i y n
+pluses_same v at i {x} {y} k n d e s = d ∙ ap₂ (pluses v at i) e s
 
 pub lesses_start : (v : List Float) (at : List ℕ) (i : ℕ) (x : Float) → x ≡ lesses v at i x 0
 unfolding lesses

@@ -1,20 +1,18 @@
 -- Row q of a trapezoid's columns, one column after the other, and the sums that grow along them, by one, four or eight columns. Assumes nothing.
 use mathlib.Core.Path.{◌≡◌, refl, sym, ap, ap₂, ◌∙◌, subst}
 use mathlib.Core.List.{List}
-use Prim.Native.Nat.{ℕ, suc, ◌+◌, ◌-◌, ◌≤◌, ◌<◌}
+use Prim.Native.Nat.{ℕ, zero, suc, ◌+◌, ◌-◌, ◌≤◌, ◌<◌}
 use native.Mathlib.Omega.{arith}
 use native.Mathlib.Numerals.{add-one}
 use native.Mathlib.Decide.{ℕ_discrete}
 use lib.ListN.{length, get_or, set}
 use lib.Seq.{get_or-set_same, get_or-set_other}
-use mir.Syntax.{w64}
-use mir.Val.{Fits}
 use lib.Ieee.{Float, nan, binary64, add, mul}
 use Rattle.laws.proofs.Entry.{trap_suc, trap_mono}
 use Rattle.areas.specs.Touch.{Touched}
 use Rattle.areas.proofs.Touch as touch
 use Rattle.panel.specs.View.{cell}
-use Rattle.products.specs.Products.{plus, plus4, Begun}
+use Rattle.products.specs.Products.{plus, plus4, pluses, Begun}
 use Rattle.products.proofs.Floats.{dot_start, dot_step}
 use Rattle.statement.specs.Shape.{trapezoid}
 use Rattle.statement.specs.Input.{+0}
@@ -36,33 +34,9 @@ at_in m k q kw at L h h₁ h₂ e l = omega (arith, trap_suc m k, trap_mono m (s
 pub at_next : (m k k' q at at' : ℕ) → k < q → q < m → k' ≡ k + 1 → at' ≡ at + m - k' → at ≡ trapezoid m k + (q - k) → at' ≡ trapezoid m k' + (q - k')
 at_next m k k' q at at' h h₁ s n e = omega (arith, trap_suc m k, ap (trapezoid m) (s ∙ add-one k))
 
--- what the code takes off the place of the next column
-pub enough : (s m k j : ℕ) → k + j ≤ m → j ≤ s + (m - k)
-enough s m k j h = omega arith
-
 -- row q itself is among the rows from q
 pub some : (m q : ℕ) → q < m → 0 < m - q
 some m q h = omega arith
-
--- no sum of a place and a column's length wraps
-pub wide : (s m k q L : ℕ) → s + (m - q) ≤ L → L < 9223372036854775808 → m ≤ 32768 → Fits w64 (s + (m - k))
-wide s m k q L h b f = record { fits = omega arith }
-
--- where row q of the column k stands
-abbrev pub Stands : ℕ → ℕ → ℕ → ℕ → Type 0
-Stands m q k s = s ≡ trapezoid m k + (q - k)
-
-pub stands_at : (m q s a b : ℕ) → Stands m q a s → a ≡ b → Stands m q b s
-stands_at m q s a b t e = t ∙ ap (λ k. trapezoid m k + (q - k)) e
-
--- one more place kept
-pub kept : (m q k : ℕ) (at : List ℕ) (j s : ℕ) → j < length at → ((i : ℕ) → i < j → Stands m q (k + i) (get_or at i 0)) → Stands m q (k + j) s →
-    (i : ℕ) → i < j + 1 → Stands m q (k + i) (get_or (set at j s) i 0)
-kept m q k at j s l t e i h = one (ℕ_discrete i j)
-  where
-    one : Dec (i ≡ j) → Stands m q (k + i) (get_or (set at j s) i 0)
-    one (yes d) = ap (λ i. get_or (set at j s) i 0) d ∙ get_or-set_same at j s 0 l ∙ e ∙ ap (λ i. trapezoid m (k + i) + (q - (k + i))) (sym d)
-    one (no d) = get_or-set_other at j i s 0 d ∙ t i (omega arith)
 
 -- s₀ to s₃ are where row q of four columns from k on stands, s₄ that of the column after them; each column's rows from q on lie before L
 pub record Four (m k q L s₀ s₁ s₂ s₃ s₄ : ℕ) : Type 0 where
@@ -100,41 +74,21 @@ module _ (m k q kw L s₀ s₁ s₂ s₃ s₄ : ℕ) (h : k + 4 ≤ kw) (u : kw 
       a₃ : s₃ ≡ trapezoid m (k + 3) + (q - (k + 3))
       a₃ = at_next m (k + 2) (k + 3) q s₂ s₃ (omega arith) l (omega arith) e₃ a₂
 
--- the same of eight columns
-pub record Eight (m k q L s₀ s₁ s₂ s₃ s₄ s₅ s₆ s₇ s₈ : ℕ) : Type 0 where
-  pub low : Four m k q L s₀ s₁ s₂ s₃ s₄
-  pub high : Four m (k + 4) q L s₄ s₅ s₆ s₇ s₈
-  pub at₈ : s₈ ≡ trapezoid m (k + 8) + (q - (k + 8))
+-- where row q of the column k stands
+abbrev pub Stands : ℕ → ℕ → ℕ → ℕ → Type 0
+Stands m q k s = s ≡ trapezoid m k + (q - k)
 
--- the code takes k off m first, and then the number of the column after k
-down : (x s m k j b : ℕ) → k ≤ m → b ≡ k + j → x ≡ s + (m - k) - j → x ≡ s + m - b
-down x s m k j b h e d = omega arith
+pub stands_at : (m q s a b : ℕ) → Stands m q a s → a ≡ b → Stands m q b s
+stands_at m q s a b t e = t ∙ ap (λ k. trapezoid m k + (q - k)) e
 
-module _ (m k q kw L s₀ s₁ s₂ s₃ s₄ : ℕ) (u : kw ≤ q) (l : q < m) (d : trapezoid m kw ≤ L)
-    (e₀ : s₀ ≡ trapezoid m k + (q - k)) (e₁ : s₁ ≡ s₀ + (m - k) - 1) (e₂ : s₂ ≡ s₁ + (m - k) - 2) (e₃ : s₃ ≡ s₂ + (m - k) - 3) (e₄ : s₄ ≡ s₃ + (m - k) - 4) where
-  pub fours : k + 4 ≤ kw → Four m k q L s₀ s₁ s₂ s₃ s₄
-  fours h =
-      four m k q kw L s₀ s₁ s₂ s₃ s₄ h u l d e₀ (down s₁ s₀ m k 1 (k + 1) r refl e₁) (down s₂ s₁ m k 2 (k + 2) r refl e₂) (down s₃ s₂ m k 3 (k + 3) r refl e₃) (down s₄ s₃ m k 4 (k + 4) r refl e₄)
-    where
-      r : k ≤ m
-      r = omega arith
-
-  pub eights : (s₅ s₆ s₇ s₈ : ℕ) → k + 8 ≤ kw → s₅ ≡ s₄ + (m - k) - 5 → s₆ ≡ s₅ + (m - k) - 6 → s₇ ≡ s₆ + (m - k) - 7 → s₈ ≡ s₇ + (m - k) - 8 → Eight m k q L s₀ s₁ s₂ s₃ s₄ s₅ s₆ s₇ s₈
-  eights s₅ s₆ s₇ s₈ h e₅ e₆ e₇ e₈ =
-      record { low = f; high = g; at₈ = g.at₄ ∙ ap (λ c. trapezoid m c + (q - c)) next }
-    where
-      r : k ≤ m
-      r = omega arith
-
-      next : k + 4 + 4 ≡ k + 8
-      next = omega arith
-
-      f : Four m k q L s₀ s₁ s₂ s₃ s₄
-      f = fours (omega arith)
-
-      g : Four m (k + 4) q L s₄ s₅ s₆ s₇ s₈
-      g =
-          four m (k + 4) q kw L s₄ s₅ s₆ s₇ s₈ (omega arith) u l d f.at₄ (down s₅ s₄ m k 5 (k + 4 + 1) r (omega arith) e₅) (down s₆ s₅ m k 6 (k + 4 + 2) r (omega arith) e₆) (down s₇ s₆ m k 7 (k + 4 + 3) r (omega arith) e₇) (down s₈ s₇ m k 8 (k + 4 + 4) r (omega arith) e₈)
+-- one more place kept
+pub kept : (m q k : ℕ) (at : List ℕ) (j s : ℕ) → j < length at → ((i : ℕ) → i < j → Stands m q (k + i) (get_or at i 0)) → Stands m q (k + j) s →
+    (i : ℕ) → i < j + 1 → Stands m q (k + i) (get_or (set at j s) i 0)
+kept m q k at j s l t e i h = one (ℕ_discrete i j)
+  where
+    one : Dec (i ≡ j) → Stands m q (k + i) (get_or (set at j s) i 0)
+    one (yes d) = ap (λ i. get_or (set at j s) i 0) d ∙ get_or-set_same at j s 0 l ∙ e ∙ ap (λ i. trapezoid m (k + i) + (q - (k + i))) (sym d)
+    one (no d) = get_or-set_other at j i s 0 d ∙ t i (omega arith)
 
 -- the sums over the first k columns
 module _ (old v : List Float) (m q n : ℕ) where
@@ -152,16 +106,24 @@ module _ (old v : List Float) (m q n : ℕ) where
       row : s + i ≡ trapezoid m k + (q + i - k)
       row = omega arith
 
+  -- and those of the N columns from k on
+  many_more : (at : List ℕ) (N i k : ℕ) (x : Float) → k + N ≤ q → ((j : ℕ) → j < N → Stands m q (k + j) (get_or at j 0)) →
+      x ≡ dot (cell m v (q + i)) (cell m v q) k → pluses v at i x N ≡ dot (cell m v (q + i)) (cell m v q) (k + N)
+  unfolding pluses
+  many_more at zero i k x h s d = d ∙ ap (dot (cell m v (q + i)) (cell m v q)) (omega arith)
+  many_more at (suc N) i k x h s d =
+      one_more (get_or at N 0) i (k + N) (k + suc N) _ (omega arith) (omega arith) (s N (omega arith)) (many_more at N i k x (omega arith) (λ j l. s j (omega arith)) d)
+
+  -- none, and N columns from k
+  pub summed_none : (w : List Float) → Touched nan old w n (λ i. i) (λ i. +0) → Summed w 0
+  summed_none w a = touch.recast nan old w n (λ i. i) (λ i. +0) _ a (λ i p. dot_start (cell m v (q + i)) (cell m v q))
+
   four_more : (L s₀ s₁ s₂ s₃ s₄ i k k' : ℕ) (x : Float) → k + 4 ≤ q → k' ≡ k + 4 → Four m k q L s₀ s₁ s₂ s₃ s₄ →
       x ≡ dot (cell m v (q + i)) (cell m v q) k → plus4 v s₀ s₁ s₂ s₃ i x ≡ dot (cell m v (q + i)) (cell m v q) k'
   four_more L s₀ s₁ s₂ s₃ s₄ i k k' x h e f d =
       one_more s₃ i (k + 3) k' _ (omega arith) (omega arith) f.at₃
       (one_more s₂ i (k + 2) (k + 3) _ (omega arith) (omega arith) f.at₂
       (one_more s₁ i (k + 1) (k + 2) _ (omega arith) (omega arith) f.at₁ (one_more s₀ i k (k + 1) _ (omega arith) refl f.at₀ d)))
-
-  -- none, and the first ones
-  pub summed_none : (w : List Float) → Touched nan old w n (λ i. i) (λ i. +0) → Summed w 0
-  summed_none w a = touch.recast nan old w n (λ i. i) (λ i. +0) _ a (λ i p. dot_start (cell m v (q + i)) (cell m v q))
 
   pub summed_1 : (w : List Float) → Touched nan old w n (λ i. i) (λ i. plus v q i +0) → Summed w 1
   summed_1 w a =
@@ -171,22 +133,10 @@ module _ (old v : List Float) (m q n : ℕ) where
   summed_4 w L s₁ s₂ s₃ s₄ h f a =
       touch.recast nan old w n (λ i. i) _ _ a (λ i p. four_more L q s₁ s₂ s₃ s₄ i 0 4 _ h refl f (dot_start (cell m v (q + i)) (cell m v q)))
 
-  -- one, four and eight columns from k
-  pub summed_more : (w w' : List Float) (k s : ℕ) → k < q → s ≡ trapezoid m k + (q - k) → Summed w k →
-      Touched nan w w' n (λ i. i) (λ i. plus v s i (get_or w i nan)) → Summed w' (k + 1)
-  summed_more w w' k s h e t a =
-      touch.again nan old w n (λ i. i) (λ i. dot (cell m v (q + i)) (cell m v q) k) _ w' _ t a (λ i p. one_more s i k (k + 1) _ (omega arith) refl e (t.inside i p))
-
-  pub summed_more4 : (w w' : List Float) (k L s₀ s₁ s₂ s₃ s₄ : ℕ) → k + 4 ≤ q → Four m k q L s₀ s₁ s₂ s₃ s₄ → Summed w k →
-      Touched nan w w' n (λ i. i) (λ i. plus4 v s₀ s₁ s₂ s₃ i (get_or w i nan)) → Summed w' (k + 4)
-  summed_more4 w w' k L s₀ s₁ s₂ s₃ s₄ h f t a =
-      touch.again nan old w n (λ i. i) (λ i. dot (cell m v (q + i)) (cell m v q) k) _ w' _ t a (λ i p. four_more L s₀ s₁ s₂ s₃ s₄ i k (k + 4) _ h refl f (t.inside i p))
-
-  pub summed_more8 : (w w' : List Float) (k L s₀ s₁ s₂ s₃ s₄ s₅ s₆ s₇ s₈ : ℕ) → k + 8 ≤ q → Eight m k q L s₀ s₁ s₂ s₃ s₄ s₅ s₆ s₇ s₈ → Summed w k →
-      Touched nan w w' n (λ i. i) (λ i. plus4 v s₄ s₅ s₆ s₇ i (plus4 v s₀ s₁ s₂ s₃ i (get_or w i nan))) → Summed w' (k + 8)
-  summed_more8 w w' k L s₀ s₁ s₂ s₃ s₄ s₅ s₆ s₇ s₈ h f t a =
-      touch.again nan old w n (λ i. i) (λ i. dot (cell m v (q + i)) (cell m v q) k) _ w' _ t a
-      (λ i p. four_more L s₄ s₅ s₆ s₇ s₈ i (k + 4) (k + 8) _ (omega arith) (omega arith) f.high (four_more L s₀ s₁ s₂ s₃ s₄ i k (k + 4) _ (omega arith) refl f.low (t.inside i p)))
+  pub summed_more : (w w' : List Float) (at : List ℕ) (N k : ℕ) → k + N ≤ q → ((j : ℕ) → j < N → Stands m q (k + j) (get_or at j 0)) → Summed w k →
+      Touched nan w w' n (λ i. i) (λ i. pluses v at i (get_or w i nan) N) → Summed w' (k + N)
+  summed_more w w' at N k h s t a =
+      touch.again nan old w n (λ i. i) (λ i. dot (cell m v (q + i)) (cell m v q) k) _ w' _ t a (λ i p. many_more at N i k _ h s (t.inside i p))
 
   -- the sums with which a function begins, and those that it hands on
   pub summed_here : {kw k : ℕ} → n ≡ m - q → Begun m q kw k v old → Summed old k

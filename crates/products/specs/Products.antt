@@ -16,7 +16,12 @@ less v at i x = sub binary64 x (mul binary64 (get_or v (at + i) nan) (get_or v a
 abbrev pub plus4 : List Float → ℕ → ℕ → ℕ → ℕ → ℕ → Float → Float
 plus4 v s₀ s₁ s₂ s₃ i x = plus v s₃ i (plus v s₂ i (plus v s₁ i (plus v s₀ i x)))
 
--- the products of the first k of the columns at `at` subtracted, one after the other
+-- the products of the first k of the columns at `at` added, one after the other
+unfoldable pub pluses : List Float → List ℕ → ℕ → Float → ℕ → Float
+pluses v at i x zero = x
+pluses v at i x (suc k) = plus v (get_or at k 0) i (pluses v at i x k)
+
+-- and subtracted
 unfoldable pub lesses : List Float → List ℕ → ℕ → Float → ℕ → Float
 lesses v at i x zero = x
 lesses v at i x (suc k) = less v (get_or at k 0) i (lesses v at i x k)

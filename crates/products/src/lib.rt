@@ -10,7 +10,7 @@ ghost use Rattle.statement.specs.Shape.{trapezoid};
 ghost use Rattle.statement.specs.Rules.{dot};
 ghost use Rattle.areas.specs.Touch.{Touched};
 ghost use Rattle.panel.specs.View.{cell};
-ghost use Rattle.products.specs.Products.{plus, plus4, lesses, Begun};
+ghost use Rattle.products.specs.Products.{plus, plus4, pluses, lesses, Begun};
 
 use panel::column_start;
 
@@ -22,8 +22,8 @@ pub fn clear(w: &mut [f64], n: usize)
     w[..n].fill(0.0);
 }
 
-// w is the products of the n places from s0 with the first of them, each as a sum of one. The next eight stay apart: one function over N columns from
-// cleared sums, proved, took 4 to 5 % more instructions on dissected grids and cubes.
+// w is the products of the n places from s0 with the first of them, each as a sum of one. Not one with set4, as `add` on a cleared w: tried and proved,
+// it took 4 to 5 % more instructions on dissected grids and cubes.
 fn set1(w: &mut [f64], v: &[f64], s0: usize, n: usize)
     requires { (0 < n) × (s0 + n ≤ length v.now) × (n ≤ length w.old) }
     ensures { Touched nan w.old w.new n (λ i. i) (λ i. plus v.now s0 i +0) }
@@ -31,17 +31,6 @@ fn set1(w: &mut [f64], v: &[f64], s0: usize, n: usize)
     let a0 = v[s0];
     for i in 0..n {
         w[i] = 0.0 + v[s0 + i] * a0;
-    }
-}
-
-// The same products are added to w.
-fn add1(w: &mut [f64], v: &[f64], s0: usize, n: usize)
-    requires { (0 < n) × (s0 + n ≤ length v.now) × (n ≤ length w.old) }
-    ensures { Touched nan w.old w.new n (λ i. i) (λ i. plus v.now s0 i (get_or w.old i nan)) }
-{
-    let a0 = v[s0];
-    for i in 0..n {
-        w[i] = w[i] + v[s0 + i] * a0;
     }
 }
 
@@ -59,109 +48,52 @@ fn set4(w: &mut [f64], v: &[f64], s0: usize, s1: usize, s2: usize, s3: usize, n:
     }
 }
 
-// The products of four columns are added to w, one after the other.
-fn add4(w: &mut [f64], v: &[f64], s0: usize, s1: usize, s2: usize, s3: usize, n: usize)
-    requires { (0 < n) × (s0 + n ≤ length v.now) × (s1 + n ≤ length v.now) × (s2 + n ≤ length v.now) × (s3 + n ≤ length v.now) × (n ≤ length w.old) }
-    ensures { Touched nan w.old w.new n (λ i. i) (λ i. plus4 v.now s0 s1 s2 s3 i (get_or w.old i nan)) }
+// To each of the n places of w, the products of N columns' places with the first of them are added, one column after the other; w is read and written
+// once for them all.
+fn add<const N: usize>(w: &mut [f64], v: &[f64], at: [usize; N], n: usize)
+    requires { (0 < n) × ((k : ℕ) → k < N → get_or at k 0 + n ≤ length v.now) × (n ≤ length w.old) }
+    ensures { Touched nan w.old w.new n (λ i. i) (λ i. pluses v.now at.entry i (get_or w.old i nan) N) }
 {
-    let a0 = v[s0];
-    let a1 = v[s1];
-    let a2 = v[s2];
-    let a3 = v[s3];
+    let mut first = [0.0; N];
+    for k in 0..N {
+        first[k] = v[at[k]];
+    }
     for i in 0..n {
-        w[i] = (((w[i] + v[s0 + i] * a0) + v[s1 + i] * a1) + v[s2 + i] * a2) + v[s3 + i] * a3;
+        let mut x = w[i];
+        for k in 0..N {
+            x += v[at[k] + i] * first[k];
+        }
+        w[i] = x;
     }
 }
 
-// The same of eight: w is read and written once for them all.
-fn add8(
-    w: &mut [f64],
+// The sums over the first columns, those below `from`, go on to the column that is the result: N at a time, while there are N below kw. A `while`:
+// `step_by(N)` would begin the last, shorter group too.
+fn by<const N: usize>(
+    work: &mut [f64],
     v: &[f64],
-    s0: usize,
-    s1: usize,
-    s2: usize,
-    s3: usize,
-    s4: usize,
-    s5: usize,
-    s6: usize,
-    s7: usize,
-    n: usize,
-)
-    requires { (0 < n) × (s0 + n ≤ length v.now) × (s1 + n ≤ length v.now) × (s2 + n ≤ length v.now) × (s3 + n ≤ length v.now) × (s4 + n ≤ length v.now) × (s5 + n ≤ length v.now) × (s6 + n ≤ length v.now) × (s7 + n ≤ length v.now) × (n ≤ length w.old) }
-    ensures { Touched nan w.old w.new n (λ i. i) (λ i. plus4 v.now s4 s5 s6 s7 i (plus4 v.now s0 s1 s2 s3 i (get_or w.old i nan))) }
+    m: usize,
+    q: usize,
+    kw: usize,
+    from: usize,
+) -> usize
+    requires some { 0 < N }
+    requires begun { Begun m q kw from v.now work.old }
+    ensures upto { (result ≤ kw) × (kw < result + N) }
+    ensures sums { Touched nan work.old work.new (m - q) (λ i. i) (λ i. dot (cell m v.now (q + i)) (cell m v.now q) result) }
 {
-    let a0 = v[s0];
-    let a1 = v[s1];
-    let a2 = v[s2];
-    let a3 = v[s3];
-    let a4 = v[s4];
-    let a5 = v[s5];
-    let a6 = v[s6];
-    let a7 = v[s7];
-    for i in 0..n {
-        w[i] = (((((((w[i] + v[s0 + i] * a0) + v[s1 + i] * a1) + v[s2 + i] * a2) + v[s3 + i] * a3)
-            + v[s4 + i] * a4)
-            + v[s5 + i] * a5)
-            + v[s6 + i] * a6)
-            + v[s7 + i] * a7;
-    }
-}
-
-// The sums over the first columns, those below `from`, go on to kw of them, one column at a time.
-fn by_ones(work: &mut [f64], v: &[f64], m: usize, q: usize, kw: usize, from: usize)
-    requires { Begun m q kw from v.now work.old }
-    ensures { Touched nan work.old work.new (m - q) (λ i. i) (λ i. dot (cell m v.now (q + i)) (cell m v.now q) kw) }
-{
-    let n = m - q;
-    let mut src = column_start(m, from) + q - from;
-    for k in from..kw {
-        add1(work, v, src, n);
-        src = src + m - k - 1;
-    }
-}
-
-// The same, four columns at a time while there are four. A `while`: `step_by(4)` would begin the last, shorter group too.
-fn by_fours(work: &mut [f64], v: &[f64], m: usize, q: usize, kw: usize, from: usize)
-    requires { Begun m q kw from v.now work.old }
-    ensures { Touched nan work.old work.new (m - q) (λ i. i) (λ i. dot (cell m v.now (q + i)) (cell m v.now q) kw) }
-{
-    let n = m - q;
     let mut k = from;
     let mut src = column_start(m, from) + q - from;
-    while k + 4 <= kw {
-        let d = m - k;
-        let s1 = src + d - 1;
-        let s2 = s1 + d - 2;
-        let s3 = s2 + d - 3;
-        add4(work, v, src, s1, s2, s3, n);
-        src = s3 + d - 4;
-        k += 4;
+    while kw - k >= N {
+        let mut at = [0; N];
+        for j in 0..N {
+            at[j] = src;
+            src = src + m - (k + j) - 1;
+        }
+        add(work, v, at, m - q);
+        k += N;
     }
-    by_ones(work, v, m, q, kw, k);
-}
-
-// The same, eight columns at a time while there are eight, by `while` for the same reason.
-fn by_eights(work: &mut [f64], v: &[f64], m: usize, q: usize, kw: usize, from: usize)
-    requires { Begun m q kw from v.now work.old }
-    ensures { Touched nan work.old work.new (m - q) (λ i. i) (λ i. dot (cell m v.now (q + i)) (cell m v.now q) kw) }
-{
-    let n = m - q;
-    let mut k = from;
-    let mut src = column_start(m, from) + q - from;
-    while k + 8 <= kw {
-        let d = m - k;
-        let s1 = src + d - 1;
-        let s2 = s1 + d - 2;
-        let s3 = s2 + d - 3;
-        let s4 = s3 + d - 4;
-        let s5 = s4 + d - 5;
-        let s6 = s5 + d - 6;
-        let s7 = s6 + d - 7;
-        add8(work, v, src, s1, s2, s3, s4, s5, s6, s7, n);
-        src = s7 + d - 8;
-        k += 8;
-    }
-    by_fours(work, v, m, q, kw, k);
+    k
 }
 
 // One sum for each row from q of an m-row trapezoid: over its first kw columns, each row times row q.
@@ -176,14 +108,16 @@ pub fn sums(work: &mut [f64], v: &[f64], m: usize, q: usize, kw: usize)
     }
     if kw < 4 {
         set1(work, v, q, n);
-        by_ones(work, v, m, q, kw, 1);
+        by::<1>(work, v, m, q, kw, 1);
         return;
     }
     let s1 = q + m - 1;
     let s2 = s1 + m - 2;
     let s3 = s2 + m - 3;
     set4(work, v, q, s1, s2, s3, n);
-    by_eights(work, v, m, q, kw, 4);
+    let k8 = by::<8>(work, v, m, q, kw, 4);
+    let k4 = by::<4>(work, v, m, q, kw, k8);
+    by::<1>(work, v, m, q, kw, k4);
 }
 
 // work is subtracted from the n places from `at`.
