@@ -88,7 +88,8 @@ fn update_summed(
     );
 }
 
-// The same of an earlier supernode of one column, in one pass.
+// The same of an earlier supernode of one column, in one pass. Not one with update_summed: a sum of one needs no work space, and all that the two share
+// is how the base is found.
 fn update_single(
     values: &mut [f64],
     to: &Supernode,

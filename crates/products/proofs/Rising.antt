@@ -12,7 +12,7 @@ use Rattle.laws.proofs.Entry.{trap_suc, trap_mono}
 use Rattle.areas.specs.Touch.{Touched}
 use Rattle.areas.proofs.Touch as touch
 use Rattle.panel.specs.View.{cell}
-use Rattle.products.specs.Products.{plus, pluses, Begun}
+use Rattle.products.specs.Products.{plus, plus4, pluses, Begun}
 use Rattle.products.proofs.Floats.{dot_start, dot_step}
 use Rattle.statement.specs.Shape.{trapezoid}
 use Rattle.statement.specs.Input.{+0}
@@ -37,6 +37,42 @@ at_next m k k' q at at' h h₁ s n e = omega (arith, trap_suc m k, ap (trapezoid
 -- row q itself is among the rows from q
 pub some : (m q : ℕ) → q < m → 0 < m - q
 some m q h = omega arith
+
+-- s₀ to s₃ are where row q of four columns from k on stands, s₄ that of the column after them; each column's rows from q on lie before L
+pub record Four (m k q L s₀ s₁ s₂ s₃ s₄ : ℕ) : Type 0 where
+  pub at₀ : s₀ ≡ trapezoid m k + (q - k)
+  pub at₁ : s₁ ≡ trapezoid m (k + 1) + (q - (k + 1))
+  pub at₂ : s₂ ≡ trapezoid m (k + 2) + (q - (k + 2))
+  pub at₃ : s₃ ≡ trapezoid m (k + 3) + (q - (k + 3))
+  pub at₄ : s₄ ≡ trapezoid m (k + 4) + (q - (k + 4))
+  pub in₀ : s₀ + (m - q) ≤ L
+  pub in₁ : s₁ + (m - q) ≤ L
+  pub in₂ : s₂ + (m - q) ≤ L
+  pub in₃ : s₃ + (m - q) ≤ L
+
+module _ (m k q kw L s₀ s₁ s₂ s₃ s₄ : ℕ) (h : k + 4 ≤ kw) (u : kw ≤ q) (l : q < m) (d : trapezoid m kw ≤ L) where
+  pub four : s₀ ≡ trapezoid m k + (q - k) → s₁ ≡ s₀ + m - (k + 1) → s₂ ≡ s₁ + m - (k + 2) → s₃ ≡ s₂ + m - (k + 3) → s₄ ≡ s₃ + m - (k + 4) → Four m k q L s₀ s₁ s₂ s₃ s₄
+  four e₀ e₁ e₂ e₃ e₄ =
+      record {
+        at₀ = e₀;
+        at₁ = a₁;
+        at₂ = a₂;
+        at₃ = a₃;
+        at₄ = at_next m (k + 3) (k + 4) q s₃ s₄ (omega arith) l (omega arith) e₄ a₃;
+        in₀ = at_in m k q kw s₀ L (omega arith) u l e₀ d;
+        in₁ = at_in m (k + 1) q kw s₁ L (omega arith) u l a₁ d;
+        in₂ = at_in m (k + 2) q kw s₂ L (omega arith) u l a₂ d;
+        in₃ = at_in m (k + 3) q kw s₃ L (omega arith) u l a₃ d;
+      }
+    where
+      a₁ : s₁ ≡ trapezoid m (k + 1) + (q - (k + 1))
+      a₁ = at_next m k (k + 1) q s₀ s₁ (omega arith) l refl e₁ e₀
+
+      a₂ : s₂ ≡ trapezoid m (k + 2) + (q - (k + 2))
+      a₂ = at_next m (k + 1) (k + 2) q s₁ s₂ (omega arith) l (omega arith) e₂ a₁
+
+      a₃ : s₃ ≡ trapezoid m (k + 3) + (q - (k + 3))
+      a₃ = at_next m (k + 2) (k + 3) q s₂ s₃ (omega arith) l (omega arith) e₃ a₂
 
 -- where row q of the column k stands
 abbrev pub Stands : ℕ → ℕ → ℕ → ℕ → Type 0
@@ -81,6 +117,21 @@ module _ (old v : List Float) (m q n : ℕ) where
   -- none, and N columns from k
   pub summed_none : (w : List Float) → Touched nan old w n (λ i. i) (λ i. +0) → Summed w 0
   summed_none w a = touch.recast nan old w n (λ i. i) (λ i. +0) _ a (λ i p. dot_start (cell m v (q + i)) (cell m v q))
+
+  four_more : (L s₀ s₁ s₂ s₃ s₄ i k k' : ℕ) (x : Float) → k + 4 ≤ q → k' ≡ k + 4 → Four m k q L s₀ s₁ s₂ s₃ s₄ →
+      x ≡ dot (cell m v (q + i)) (cell m v q) k → plus4 v s₀ s₁ s₂ s₃ i x ≡ dot (cell m v (q + i)) (cell m v q) k'
+  four_more L s₀ s₁ s₂ s₃ s₄ i k k' x h e f d =
+      one_more s₃ i (k + 3) k' _ (omega arith) (omega arith) f.at₃
+      (one_more s₂ i (k + 2) (k + 3) _ (omega arith) (omega arith) f.at₂
+      (one_more s₁ i (k + 1) (k + 2) _ (omega arith) (omega arith) f.at₁ (one_more s₀ i k (k + 1) _ (omega arith) refl f.at₀ d)))
+
+  pub summed_1 : (w : List Float) → Touched nan old w n (λ i. i) (λ i. plus v q i +0) → Summed w 1
+  summed_1 w a =
+      touch.recast nan old w n (λ i. i) _ _ a (λ i p. one_more q i 0 1 _ (omega arith) refl (at_first m q) (dot_start (cell m v (q + i)) (cell m v q)))
+
+  pub summed_4 : (w : List Float) (L s₁ s₂ s₃ s₄ : ℕ) → 4 ≤ q → Four m 0 q L q s₁ s₂ s₃ s₄ → Touched nan old w n (λ i. i) (λ i. plus4 v q s₁ s₂ s₃ i +0) → Summed w 4
+  summed_4 w L s₁ s₂ s₃ s₄ h f a =
+      touch.recast nan old w n (λ i. i) _ _ a (λ i p. four_more L q s₁ s₂ s₃ s₄ i 0 4 _ h refl f (dot_start (cell m v (q + i)) (cell m v q)))
 
   pub summed_more : (w w' : List Float) (at : List ℕ) (N k : ℕ) → k + N ≤ q → ((j : ℕ) → j < N → Stands m q (k + j) (get_or at j 0)) → Summed w k →
       Touched nan w w' n (λ i. i) (λ i. pluses v at i (get_or w i nan) N) → Summed w' (k + N)

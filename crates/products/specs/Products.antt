@@ -12,6 +12,10 @@ plus v at i x = add binary64 x (mul binary64 (get_or v (at + i) nan) (get_or v a
 abbrev pub less : List Float → ℕ → ℕ → Float → Float
 less v at i x = sub binary64 x (mul binary64 (get_or v (at + i) nan) (get_or v at nan))
 
+-- four columns' products added, one after the other
+abbrev pub plus4 : List Float → ℕ → ℕ → ℕ → ℕ → ℕ → Float → Float
+plus4 v s₀ s₁ s₂ s₃ i x = plus v s₃ i (plus v s₂ i (plus v s₁ i (plus v s₀ i x)))
+
 -- the products of the first k of the columns at `at` added, one after the other
 unfoldable pub pluses : List Float → List ℕ → ℕ → Float → ℕ → Float
 pluses v at i x zero = x

@@ -10,7 +10,7 @@ ghost use Rattle.statement.specs.Shape.{trapezoid};
 ghost use Rattle.statement.specs.Rules.{dot};
 ghost use Rattle.areas.specs.Touch.{Touched};
 ghost use Rattle.panel.specs.View.{cell};
-ghost use Rattle.products.specs.Products.{plus, pluses, lesses, Begun};
+ghost use Rattle.products.specs.Products.{plus, plus4, pluses, lesses, Begun};
 
 use panel::column_start;
 
@@ -22,16 +22,46 @@ pub fn clear(w: &mut [f64], n: usize)
     w[..n].fill(0.0);
 }
 
+// w is the products of the n places from s0 with the first of them, each as a sum of one. Not one with set4, as `add` on a cleared w: tried and proved,
+// it took 4 to 5 % more instructions on dissected grids and cubes.
+fn set1(w: &mut [f64], v: &[f64], s0: usize, n: usize)
+    requires { (0 < n) × (s0 + n ≤ length v.now) × (n ≤ length w.old) }
+    ensures { Touched nan w.old w.new n (λ i. i) (λ i. plus v.now s0 i +0) }
+{
+    let a0 = v[s0];
+    for i in 0..n {
+        w[i] = 0.0 + v[s0 + i] * a0;
+    }
+}
+
+// w is the sums of such products of four columns, one after the other.
+fn set4(w: &mut [f64], v: &[f64], s0: usize, s1: usize, s2: usize, s3: usize, n: usize)
+    requires { (0 < n) × (s0 + n ≤ length v.now) × (s1 + n ≤ length v.now) × (s2 + n ≤ length v.now) × (s3 + n ≤ length v.now) × (n ≤ length w.old) }
+    ensures { Touched nan w.old w.new n (λ i. i) (λ i. plus4 v.now s0 s1 s2 s3 i +0) }
+{
+    let a0 = v[s0];
+    let a1 = v[s1];
+    let a2 = v[s2];
+    let a3 = v[s3];
+    for i in 0..n {
+        w[i] = (((0.0 + v[s0 + i] * a0) + v[s1 + i] * a1) + v[s2 + i] * a2) + v[s3 + i] * a3;
+    }
+}
+
 // To each of the n places of w, the products of N columns' places with the first of them are added, one column after the other; w is read and written
 // once for them all.
 fn add<const N: usize>(w: &mut [f64], v: &[f64], at: [usize; N], n: usize)
     requires { (0 < n) × ((k : ℕ) → k < N → get_or at k 0 + n ≤ length v.now) × (n ≤ length w.old) }
     ensures { Touched nan w.old w.new n (λ i. i) (λ i. pluses v.now at.entry i (get_or w.old i nan) N) }
 {
+    let mut first = [0.0; N];
+    for k in 0..N {
+        first[k] = v[at[k]];
+    }
     for i in 0..n {
         let mut x = w[i];
         for k in 0..N {
-            x += v[at[k] + i] * v[at[k]];
+            x += v[at[k] + i] * first[k];
         }
         w[i] = x;
     }
@@ -71,8 +101,21 @@ pub fn sums(work: &mut [f64], v: &[f64], m: usize, q: usize, kw: usize)
     requires { (kw ≤ q) × (q < m) × (m ≤ 32768) × (trapezoid m kw ≤ length v.now) × (m - q ≤ length work.old) }
     ensures { Touched nan work.old work.new (m - q) (λ i. i) (λ i. dot (cell m v.now (q + i)) (cell m v.now q) kw) }
 {
-    clear(work, m - q);
-    let k8 = by::<8>(work, v, m, q, kw, 0);
+    let n = m - q;
+    if kw == 0 {
+        clear(work, n);
+        return;
+    }
+    if kw < 4 {
+        set1(work, v, q, n);
+        by::<1>(work, v, m, q, kw, 1);
+        return;
+    }
+    let s1 = q + m - 1;
+    let s2 = s1 + m - 2;
+    let s3 = s2 + m - 3;
+    set4(work, v, q, s1, s2, s3, n);
+    let k8 = by::<8>(work, v, m, q, kw, 4);
     let k4 = by::<4>(work, v, m, q, kw, k8);
     by::<1>(work, v, m, q, kw, k4);
 }

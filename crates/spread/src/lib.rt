@@ -45,7 +45,8 @@ pub fn store_through(
     }
 }
 
-// work is subtracted at the places of the n rows from `at`.
+// work is subtracted at the places of the n rows from `at`. Tried as one with product_through, over an `impl Fn(usize) -> f64` and `own` split at the
+// base: the loop's goal over `F.post` and the way of `Touched` back over the split stayed open.
 fn subtract_through(
     own: &mut [f64],
     base: usize,
