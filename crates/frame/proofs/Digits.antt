@@ -126,7 +126,7 @@ module _ (l : List ℕ) (a k : ℕ) where
 
 module _ (l : List ℕ) (x : ℕ) (e : value_from 0 l ≡ some x) (a k m : ℕ) (n : a + k + m ≡ length l) where
   -- k digits from place a, m before the end
-  field_is : value_from 0 (take k (drop a l)) ≡ some (x / 16 ^ m % 16 ^ k)
+  pub field_is : value_from 0 (take k (drop a l)) ≡ some (x / 16 ^ m % 16 ^ k)
   field_is =
       let d = length-drop (a + k) l in
       let c : length (drop (a + k) l) ≡ m = omega arith in
@@ -139,7 +139,7 @@ module _ (l : List ℕ) (x : ℕ) (e : value_from 0 l ≡ some x) (a k m : ℕ) 
       let z : x / 16 ^ m ≡ f.0 = ap (λ (t : ℕ). x / 16 ^ t) (sym c) ∙ y in
       ap (λ (t : ℕ). value_from t (take k (drop a l))) (sym (mod-one g.0)) ∙ v ∙ ap (λ (t : ℕ). some (f.0 % 16 ^ t)) w ∙ ap (λ (t : ℕ). some (t % 16 ^ k)) (sym z)
 
-  field_first : a ≡ 0 → x / 16 ^ m % 16 ^ k ≡ x / 16 ^ m
+  pub field_first : a ≡ 0 → x / 16 ^ m % 16 ^ k ≡ x / 16 ^ m
   field_first z =
       let y = value_above 0 x l e in
       let q = pow-add 16 m k in

@@ -174,7 +174,7 @@ fn take_end(p: Progress, starts: &mut [usize]) -> Option<Progress>
 // The four areas stay single slices, here and in what calls: a struct of lent `&mut` slices needs, in each contract, a clause for each field that it is
 // still the caller's.
 // One line more, which is given without its LF.
-pub fn step(
+fn take_line(
     p: Progress,
     line: &[u8],
     starts: &mut [usize],
@@ -194,6 +194,21 @@ pub fn step(
         Frame::Side { position, bits } => take_side(p, position, bits, right),
         Frame::End => take_end(p, starts),
     }
+}
+
+// The same after what the lines before it came to: where one of them could not stand, this one cannot.
+pub fn step(
+    p: Option<Progress>,
+    line: &[u8],
+    starts: &mut [usize],
+    rows: &mut [usize],
+    values: &mut [f64],
+    right: &mut [f64],
+) -> Option<Progress>
+    requires { IfSome p Small × Enough starts.old rows.old values.old right.old }
+    ensures { IfSome result Small × IfSome p (λ q. (j : Frames) → Holds q starts.old rows.old values.old right.old j → After result starts.new rows.new values.new right.new (next j line.now)) }
+{
+    take_line(p?, line, starts, rows, values, right)
 }
 
 // Where the LF stands that ends the line from `at` on.
@@ -227,7 +242,7 @@ fn scan(
     // no `for`: where a line ends is found on the way
     while at < text.len() {
         let end = line_end(text, at).ok_or(Fault { line })?;
-        p = step(p, &text[at..end], starts, rows, values, right).ok_or(Fault { line })?;
+        p = step(Some(p), &text[at..end], starts, rows, values, right).ok_or(Fault { line })?;
         at = end + 1;
         line += 1;
     }

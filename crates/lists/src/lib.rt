@@ -57,8 +57,8 @@ fn word_at(text: &[u8], at: usize) -> Option<Word>
     None
 }
 
-// Reads the line that begins at a place: numbers one space apart, and LF. Any other line has no numbers.
-pub fn numbers(text: &[u8], at: usize, to: &mut [usize]) -> Option<Line>
+// The line that begins at a place, where one stands there: numbers one space apart, and LF.
+pub fn line_at(text: &[u8], at: usize, to: &mut [usize]) -> Option<Line>
     ensures { IfSome result (λ line. (at < line.end) × (line.end ≤ length text.now) × (line.count ≤ length to.new)) }
 {
     let mut i = at;
@@ -76,6 +76,17 @@ pub fn numbers(text: &[u8], at: usize, to: &mut [usize]) -> Option<Line>
         }
     }
     None
+}
+
+// The same with no Option, for who reads on to the end: a line that cannot stand has no numbers, and is the last.
+pub fn numbers(text: &[u8], at: usize, to: &mut [usize]) -> Line
+    requires { at < length text.now }
+    ensures { (at < result.end) × (result.end ≤ length text.now) × (result.count ≤ length to.new) }
+{
+    line_at(text, at, to).unwrap_or(Line {
+        count: 0,
+        end: text.len(),
+    })
 }
 
 // The sum with one word more.

@@ -215,7 +215,7 @@ module _ (n : ℕ) (starts rows perm places : List ℕ) (g : Sited n starts rows
         c = get_or places (get_or rows q 0) 0
 
     -- what the code reads and adds
-    counting_reads : (b : q < get_or starts (get_or perm r 0 + 1) 0)
+    pub counting_reads : (b : q < get_or starts (get_or perm r 0 + 1) 0)
         → (q < length rows) × (get_or rows q 0 < length places) × (get_or places (get_or rows q 0) 0 < length counts) × (get_or counts (get_or places (get_or rows q 0) 0) 0 ≤ n)
     counting_reads b =
         let c = col_in q w.from b in
@@ -282,7 +282,7 @@ module _ (n : ℕ) (starts rows perm places : List ℕ) (g : Sited n starts rows
         value-is = col_value q w.from b values beside ∙ sym (get_d_map (λ r. entry_a (matrix n starts rows values) (permutation (stored starts rows) n) r c) (lower_rows n starts rows c) (reached n starts rows r q c) 0 nan more
             ∙ ap (λ x. entry_a (matrix n starts rows values) (permutation (stored starts rows) n) x c) row_is)
 
-        putting_reads : (get_or places (get_or rows q 0) 0 < length next) × (get_or next (get_or places (get_or rows q 0) 0) 0 < length l) × (get_or next (get_or places (get_or rows q 0) 0) 0 < length v)
+        pub putting_reads : (get_or places (get_or rows q 0) 0 < length next) × (get_or next (get_or places (get_or rows q 0) 0) 0 < length l) × (get_or next (get_or places (get_or rows q 0) 0) 0 < length v)
         putting_reads = (omega (arith, cn, w.in_rows.room), bucket_in 0 B w.in_rows c cn more, bucket_in nan F w.in_values c cn more_v)
 
         pub putting_more : {next' l' : List ℕ} {v' : List Float} → next' ≡ set next c (get_or next c 0 + 1) → l' ≡ set l (get_or next c 0) r → v' ≡ set v (get_or next c 0) (get_or values q nan)

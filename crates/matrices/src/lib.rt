@@ -108,8 +108,8 @@ fn put_stored(
     Some(Size { n, a })
 }
 
-// Puts the matrix that a line says in the place of the last one. A line that says none leaves it.
-pub fn matrix(
+// Puts the matrix that a line says, where it says one.
+fn put_matrix(
     line: &[usize],
     starts: &mut [usize],
     rows: &mut [usize],
@@ -123,4 +123,15 @@ pub fn matrix(
         }
         Kind::Run(_) => None,
     }
+}
+
+// The matrix that a line says, put in the place of the old one; a line that says none leaves it.
+pub fn matrix(
+    line: &[usize],
+    old: Size,
+    starts: &mut [usize],
+    rows: &mut [usize],
+    values: &mut [f64],
+) -> Size {
+    put_matrix(line, starts, rows, values).unwrap_or(old)
 }

@@ -1,4 +1,5 @@
-// One supernode's trapezoid, column by column, and `Panel`, a view of it.
+// One supernode's trapezoid, column by column, and `Panel`, a view of it. The work stands in functions on the slice and the numbers, and Panel's thin
+// methods hand on to them: the form that document 01 prescribes.
 #![tactic(auto)]
 
 ghost use Rattle.std.specs.Prelude.{◌≡◌, ◌≤◌, ◌<◌};
@@ -24,6 +25,25 @@ pub fn panel_start(c: usize) -> usize
     c / 64 * 64
 }
 
+// Column c, diagonal first.
+pub fn column_at<'a>(values: &'a [f64], m: usize, c: usize) -> &'a [f64]
+    requires { Within m values.now c }
+    ensures { result.now ≡ column_of m values.now c }
+{
+    let at = column_start(m, c);
+    let end = at + (m - c);
+    &values[at..end]
+}
+
+// Row r of column c.
+pub fn entry_at(values: &[f64], m: usize, r: usize, c: usize) -> f64
+    requires { (Within m values.now c) × (c ≤ r) × (r < m) }
+    ensures { result ≡ cell m values.now r c }
+{
+    let at = column_start(m, c) + (r - c);
+    values[at]
+}
+
 // The trapezoid of m rows at the start of the values.
 #[derive(Clone, Copy)]
 pub struct Panel<'a> {
@@ -37,8 +57,7 @@ impl<'a> Panel<'a> {
         requires { (Within self.m self.values.now c) × (c ≤ r) × (r < self.m) }
         ensures { result ≡ cell self.entry.m self.entry.values.now r c }
     {
-        let at = column_start(self.m, c) + (r - c);
-        self.values[at]
+        entry_at(self.values, self.m, r, c)
     }
 
     // Column c, diagonal first.
@@ -46,8 +65,6 @@ impl<'a> Panel<'a> {
         requires { Within self.m self.values.now c }
         ensures { result.now ≡ column_of self.entry.m self.entry.values.now c }
     {
-        let at = column_start(self.m, c);
-        let end = at + (self.m - c);
-        &self.values[at..end]
+        column_at(self.values, self.m, c)
     }
 }

@@ -9,7 +9,7 @@ use analyse::analyse;
 use answers::number;
 use areas::Zero;
 use lines::put_hex;
-use lists::{numbers, read_full, say};
+use lists::{line_at, read_full, say};
 use statement::{Outcome, Update};
 use std::io;
 use sums::{sum, sum_updates};
@@ -166,7 +166,7 @@ fn answer_all(rt: &impl Print, text: &[u8]) -> io::Result<()> {
     let values = [0.0; 8192];
     let mut list = [0; 8192];
     let mut at = 0;
-    while let Some(l) = numbers(text, at, &mut list) {
+    while let Some(l) = line_at(text, at, &mut list) {
         if !is_answered(rt, &list[..l.count], &values)? {
             break;
         }

@@ -8,7 +8,7 @@ mod line;
 use areas::Zero;
 use factor::factor;
 use line::{print, sum};
-use lists::{numbers, read_full};
+use lists::{line_at, read_full};
 use matrices::{Kind, Size, matrix};
 use solve::solve;
 use statement::{Order, Outcome, Stop, Update};
@@ -199,12 +199,12 @@ fn answer_all(rt: &impl Print, text: &[u8]) -> io::Result<()> {
     let mut values = [0.0; 16384];
     let mut size = Size { n: 0, a: 0 };
     let mut at = 0;
-    while let Some(l) = numbers(text, at, &mut list) {
+    while let Some(l) = line_at(text, at, &mut list) {
         let line = &list[..l.count];
         if let Some(Kind::Run(order)) = line.first().map(|word| Kind::from(*word)) {
             run_line(rt, order, line, size, &starts, &rows, &values)?;
-        } else if let Some(put) = matrix(line, &mut starts, &mut rows, &mut values) {
-            size = put;
+        } else {
+            size = matrix(line, size, &mut starts, &mut rows, &mut values);
         }
         at = l.end;
     }

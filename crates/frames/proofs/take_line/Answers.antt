@@ -1,8 +1,8 @@
--- `frames::step` meets its contract: by the line's frame. Assumes nothing.
+-- `frames::take_line` meets its contract: by the line's frame. Assumes nothing.
 use Rattle.std.proofs.Common.{sym, ap, ◌∙◌, Some}
 use Rattle.frame.specs.Line.{meant}
 use Rattle.frames.proofs.Taken.{next_as, next_none}
-use Rattle.frames.proofs.step.Goals as goal
+use Rattle.frames.proofs.take_line.Goals as goal
 
 pub returns-in_err-frame : goal.returns-in_err-frame
 returns-in_err-frame c = rw c.from_residual.ensures (tt, λ j h. next_none c.args.starts.now c.args.rows.now c.args.values.now c.args.right.now j _ (sym c.in_err-frame.ensures))
