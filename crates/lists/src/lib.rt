@@ -80,8 +80,8 @@ pub fn line_at(text: &[u8], at: usize, to: &mut [usize]) -> Option<Line>
 
 // The same with no Option, for who reads on to the end: a line that cannot stand has no numbers, and is the last.
 pub fn numbers(text: &[u8], at: usize, to: &mut [usize]) -> Line
-    requires { at < length text.now }
-    ensures { (at < result.end) × (result.end ≤ length text.now) × (result.count ≤ length to.new) }
+    ensures further { at < length text.now → at < result.end }
+    ensures inside { (result.end ≤ length text.now) × (result.count ≤ length to.new) }
 {
     line_at(text, at, to).unwrap_or(Line {
         count: 0,
