@@ -7,6 +7,7 @@ ghost use Rattle.statement.specs.Answers.{number};
 ghost use Rattle.crossing.specs.Words.{stage_word, answer_words, outcome_words, handed, order_said, stop_said, stage_said, record_said};
 
 use answers::{first_detail, number, second_detail};
+use parts::copy;
 use statement::{Answer, Order, Outcome, Record, Stage, Stop};
 
 fn stage_word(s: Stage) -> usize
@@ -103,6 +104,6 @@ pub fn hand(part: &[f64], to: &mut [f64])
 {
     to.fill(0.0);
     if part.len() <= to.len() {
-        to[..part.len()].copy_from_slice(part);
+        copy(&mut to[..part.len()], part);
     }
 }

@@ -6,6 +6,7 @@ ghost use Rattle.areas.specs.Buckets.{Holds, Beyond};
 ghost use Rattle.lower.specs.Entries.{Sited, Line, Counted, Put, Lowered, lower_rows, lower_start};
 
 use areas::sums::sums;
+use parts::copy;
 use std::ops::Range;
 use views::Matrix;
 
@@ -122,7 +123,7 @@ impl Upper<'_> {
         let n = self.matrix.n;
         self.count_lines(next);
         sums(n, next, words);
-        next[..n].copy_from_slice(&words[..n]);
+        copy(&mut next[..n], &words[..n]);
     }
 
     // The lower columns: in words the n + 1 starts and then the rows. next is scratch.

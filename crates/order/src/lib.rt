@@ -10,6 +10,7 @@ ghost use Rattle.laws.specs.First.{first_below};
 ghost use Rattle.statement.specs.Calls.{order_of, stop_of, wrong_position};
 ghost use Rattle.order.specs.Waiting.{Above, Of, wrong_at};
 
+use parts::copy;
 use statement::{Answer, Order, Stage, Stop};
 use supernodes::children;
 
@@ -124,6 +125,6 @@ pub fn names(order: Order, list: &[usize], t: usize, to: &mut [usize])
 {
     match order {
         Order::Plain => count_up(t, to),
-        Order::Listed => to[..t].copy_from_slice(&list[..t]),
+        Order::Listed => copy(&mut to[..t], &list[..t]),
     }
 }

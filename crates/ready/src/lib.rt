@@ -7,6 +7,7 @@ ghost use Rattle.ready.specs.Known.{Known, Laid, Kept};
 
 use lower::Upper;
 use offsets::offsets;
+use parts::copy;
 use views::Matrix;
 
 // A matrix and what is known of its factor before the values are worked out: how many supernodes, the permutation, their first columns and
@@ -44,7 +45,7 @@ impl Analysed<'_> {
         let ob = 6 * n + 1;
         offsets(ns, self.firsts, self.starts, &mut words[ob..]);
         let pb = 7 * n + 1;
-        words[pb..pb + ns].copy_from_slice(&self.tasks[n..n + ns]);
+        copy(&mut words[pb..pb + ns], &self.tasks[n..n + ns]);
         words[..n + 1].fill(0);
     }
 }

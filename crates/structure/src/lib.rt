@@ -8,6 +8,7 @@ ghost use Rattle.areas.specs.Buckets.{Holds, Beyond};
 ghost use Rattle.structure.specs.Node.{nodes, owner_of, above, in_row, row_start};
 ghost use Rattle.structure.specs.Line.{pattern, shape_of, Known, Given, Marked, Kept, Lines, Line};
 
+use parts::copy;
 use views::Columns;
 
 // The supernodes of a matrix in factor numbering: how many, and their first columns.
@@ -150,7 +151,7 @@ pub fn rows(
     ensures ended { Holds (λ k. row_start (pattern numbering.now.matrix) numbering.now.matrix.n (suc k)) ns next.new }
 {
     marks[..ns].fill(numbering.matrix.n);
-    next[..ns].copy_from_slice(&starts[..ns]);
+    copy(&mut next[..ns], &starts[..ns]);
     for r in 0..numbering.matrix.n {
         line(numbering, r, marks, next, to);
     }

@@ -9,6 +9,7 @@ ghost use Rattle.survey.specs.Laid.{structure_fault, Laid, Blank};
 use analysis::build;
 use clearing::clear_behind;
 use measure::measure;
+use parts::copy;
 use statement::{Answer, Room};
 use views::Matrix;
 
@@ -27,7 +28,7 @@ fn put_starts(ns: usize, groups: &[usize], to: &mut [usize])
     requires { (ns ≤ length groups.now) × (ns ≤ length to.old) }
     ensures { to.new ≡ take ns groups.now ++ drop ns to.old }
 {
-    to[..ns].copy_from_slice(&groups[..ns]);
+    copy(&mut to[..ns], &groups[..ns]);
 }
 
 // Areas 1 to 6 are zero before. Where it passes the areas hold the structure and zeros behind it, tasks the places of the columns and then the

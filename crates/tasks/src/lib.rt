@@ -8,6 +8,8 @@ ghost use Rattle.statement.specs.Tasks.{subtree_start, climbed, split, split_of}
 ghost use Rattle.areas.specs.Buckets.{Holds};
 ghost use Rattle.tasks.specs.Given.{Above, Sized, Parented, Given, Tabled, Loaded, Weighed, Spread, Cut, Parts, weight_in, fits_in, ended};
 
+use parts::copy;
+
 // The supernodes whose work is split: their first columns, where their rows start, and their parents.
 #[derive(Clone, Copy)]
 struct Supernodes<'a> {
@@ -182,7 +184,10 @@ fn table(supernodes: &Supernodes<'_>, words: &mut [usize])
     let ns = supernodes.number;
     loads(supernodes, words);
     begins(supernodes, &mut words[ns + 1..]);
-    words[2 * ns + 2..3 * ns + 2].copy_from_slice(&supernodes.parents[..ns]);
+    copy(
+        &mut words[2 * ns + 2..3 * ns + 2],
+        &supernodes.parents[..ns],
+    );
 }
 
 // The tasks and the top by those tables.

@@ -8,4 +8,4 @@ use Rattle.crossing.proofs.hand.Goals as goal
 
 pub returns-then-part-to : goal.returns-then-part-to
 unfolding handed held
-returns-then-part-to c = let z = c.fill.ensures.after in rw c.copy_from_slice.ensures.after (grind (arith, common_steps, drop-replicate, z, c.if-part-to.true))
+returns-then-part-to c = let z = c.fill.ensures.after in rw c.copy.ensures.after (grind (arith, common_steps, drop-replicate, z, c.if-part-to.true))
